@@ -1,5 +1,5 @@
-/* The three flags of an outlet (crates/session_io/src/outlet.rt), and the count of who is left to its worker (View::leave_to_worker, View::write_left of
-   crates/serving/src/connections/view.rt), over all interleavings: two threads that put something and write it, or leave it to the owner;
+/* The three flags of an outlet (crates/session_io/src/outlet.rt), and the count of who is left to its worker (ThreadHost::leave_to_worker, ThreadHost::write_left of
+   crates/serving/src/connections/thread_host.rt), over all interleavings: two threads that put something and write it, or leave it to the owner;
    the owner that hears the stream's events, and writes what was left to it; and the peer that reads. Checked by
 
      checks/outlet

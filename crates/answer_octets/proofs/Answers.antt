@@ -10,17 +10,17 @@ use Rattle.std.proofs.lemmas.List.Elements.{All-append, All-cons, All-head, All-
 use Rattle.std.proofs.lemmas.Fmt.{length-decimal-le}
 use Rattle.line_grammar.specs.Reading.{after_source, without_spaces}
 use Rattle.line_grammar.specs.Grammar.{IsCommand}
-use Rattle.line_grammar.specs.Spelling.{is_text_octet, spelled_params, spelled_source, untagged}
+use Rattle.line_grammar.specs.Spelling.{is_text_octet, spelled_params, spelled_source, bare_line}
 use Rattle.numerics.specs.CivilTime.{LiesOutside}
 use Rattle.numerics.specs.declared.outgoing.Out.{Out}
-use Rattle.numerics.specs.Outgoing.{spelled}
+use Rattle.numerics.specs.Outgoing.{out_text}
 use Rattle.registration.specs.declared.caps.Caps.{Caps}
 use Rattle.labels_batches.specs.declared.answers.AnswerTag.{AnswerTag}
 use Rattle.labels_batches.specs.declared.answers.AnswerTag.TheVariants.{Label, Batch}
 use Rattle.labels_batches.specs.declared.answers.Tagged.{Tagged}
 use Rattle.std.specs.Prelude.{Option}
-use Rattle.labels_batches.specs.Answers.{ack, answered, batch_ends, batch_opens, batched, tagged_as}
-use Rattle.labels_batches.specs.Rendered.{rendered}
+use Rattle.labels_batches.specs.Answers.{ack, whole_answer, batch_ends, batch_opens, as_batch, tagged_as}
+use Rattle.labels_batches.specs.Rendered.{text_as}
 use Rattle.labels_batches.specs.Whole.{HasLabelFirst, IsClosed, IsLone, labels}
 use Rattle.labels_batches.proofs.Once.{label-first, lone-opens-none, several-closed}
 use Rattle.answer_octets.specs.TextLines.{tag_in}
@@ -88,7 +88,7 @@ first-clean label l copies is c are =
     (tagged-clean None tt copies are)
 
 batched-clean : (server label : List ℕ) (n : ℕ) (ls copies : List Out) → IsServer server → IsTagText label → n < 2 ^ 64
-    → All IsClean ls → All IsClean copies → All IsCleanTagged (batched server label n ls ++ bare copies)
+    → All IsClean ls → All IsClean copies → All IsCleanTagged (as_batch server label n ls ++ bare copies)
 batched-clean server label n ls copies own is small are after =
     let ending : All IsCleanTagged (tagged_as None (batch_ends server n) ∷ []) = All-cons IsCleanTagged
     (tagged_as None (batch_ends server n)) [] (record { line = ends-clean server n own small; tag = tt })
@@ -102,7 +102,7 @@ batched-clean server label n ls copies own is small are after =
 
 answered-clean : (server label : List ℕ) (n : ℕ) (reply copies : List Out) → IsServer server → IsTagText label
     → n < 2 ^ 64 → All IsClean reply → All IsClean copies
-    → All IsCleanTagged (answered server (Some label) n reply copies)
+    → All IsCleanTagged (whole_answer server (Some label) n reply copies)
 answered-clean server label n [] copies own is small are after =
     first-clean label (ack server) copies is (ack-clean server own) after
 answered-clean server label n (l ∷ []) copies own is small are after =
@@ -114,7 +114,7 @@ answered-clean server label n (l ∷ k ∷ ls) copies own is small are after =
     (batched-clean server label n xs copies own is small are after))
 
 pub clean : (m : ℤ) (server label : List ℕ) (n : ℕ) (reply copies : List Out)
-    → IsCleanAnswer m server label n reply copies → All IsCleanTagged (answered server (Some label) n reply copies)
+    → IsCleanAnswer m server label n reply copies → All IsCleanTagged (whole_answer server (Some label) n reply copies)
 clean m server label n reply copies c =
     answered-clean server label n reply copies c.server_is c.label_is c.number c.reply_is c.copies_are
 
@@ -136,7 +136,7 @@ labels-first label ls f = ap labels f.lines ∙ ap suc f.no_other
 
 pub one-label : OneLabel
 one-label caps m server label n reply copies c =
-    let ts = answered server (Some label) n reply copies in
+    let ts = whole_answer server (Some label) n reply copies in
     label-count caps m (moment-value m c.moment) ts (clean m server label n reply copies c)
     ∙ labels-first label ts (label-first server label n reply copies)
 
@@ -144,7 +144,7 @@ one-label caps m server label n reply copies c =
 
 lone-text : (caps : Caps) (m : ℤ) (label : List ℕ) (copies : List Out) (ts : List Tagged)
     → (LiesOutside m → ⊥) → IsLone label copies ts → All IsCleanTagged ts → All IsClean copies
-    → IsLoneText label (rendered caps m (bare copies)) (rendered caps m ts)
+    → IsLoneText label (text_as caps m (bare copies)) (text_as caps m ts)
 lone-text caps m label copies ts moment lone are after =
     let time = moment-value m moment in
     let t : Tagged = tagged_as (Some (Label label)) lone.line in
@@ -161,7 +161,7 @@ lone-text caps m label copies ts moment lone are after =
 
 pub lone-whole : LoneIsWhole
 lone-whole caps m server label n reply copies c few plain =
-    lone-text caps m label copies (answered server (Some label) n reply copies) c.moment
+    lone-text caps m label copies (whole_answer server (Some label) n reply copies) c.moment
     (lone-opens-none server label n reply copies few plain) (clean m server label n reply copies c) c.copies_are
 
 -- ---- a batch
@@ -192,9 +192,9 @@ server-said server word params is short command =
     ∙ said-source (Some server) word params is.word (command-begins word command)
 
 opens-said : (server : List ℕ) (n : ℕ) → IsServer server → n < 2 ^ 64
-    → after_source (without_spaces (take 510 (spelled (batch_opens server n))))
+    → after_source (without_spaces (take 510 (out_text (batch_opens server n))))
     ≡ codes "BATCH +" ++ decimal n ++ codes " labeled-response"
-unfolding untagged
+unfolding bare_line
 opens-said server n is small =
     let params : List ℕ = codes " +" ++ decimal n ++ codes " labeled-response" in
     let short : length params ≤ 50 = omega (
@@ -208,8 +208,8 @@ opens-said server n is small =
     (is_a_command (codes "BATCH") refl)
 
 ends-said : (server : List ℕ) (n : ℕ) → IsServer server → n < 2 ^ 64
-    → after_source (without_spaces (take 510 (spelled (batch_ends server n)))) ≡ codes "BATCH -" ++ decimal n
-unfolding untagged
+    → after_source (without_spaces (take 510 (out_text (batch_ends server n)))) ≡ codes "BATCH -" ++ decimal n
+unfolding bare_line
 ends-said server n is small =
     let params : List ℕ = codes " -" ++ decimal n in
     let short : length params ≤ 50 = omega (arith, twenty n small) in
@@ -219,7 +219,7 @@ ends-said server n is small =
 
 batch-text : (caps : Caps) (m : ℤ) (server label : List ℕ) (n : ℕ) (reply copies : List Out) (ts : List Tagged)
     → IsCleanAnswer m server label n reply copies → IsClosed server label n reply copies ts → All IsCleanTagged ts
-    → IsBatchText label (decimal n) (rendered caps m (bare copies)) (rendered caps m ts)
+    → IsBatchText label (decimal n) (text_as caps m (bare copies)) (text_as caps m ts)
 batch-text caps m server label n reply copies ts c closed are =
     let time = moment-value m c.moment in
     let of : Tagged → List ℕ = line_of caps m in
@@ -252,5 +252,5 @@ batch-text caps m server label n reply copies ts c closed are =
 
 pub several-whole : SeveralAreWhole
 several-whole caps m server label n reply copies c two =
-    batch-text caps m server label n reply copies (answered server (Some label) n reply copies) c
+    batch-text caps m server label n reply copies (whole_answer server (Some label) n reply copies) c
     (several-closed server label n reply copies two) (clean m server label n reply copies c)

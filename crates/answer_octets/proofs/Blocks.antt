@@ -12,8 +12,8 @@ use Rattle.line_grammar.specs.Reading.{begins_with, after_source, without_spaces
 use Rattle.line_grammar.specs.Spelling.{is_text_octet, is_word_octet}
 use Rattle.line_grammar.proofs.Readings.{before_space-word, after_space-word}
 use Rattle.message_tags.specs.Tags.{tag}
-use Rattle.labels_batches.specs.Rendered.{with_tag, ended}
-use Rattle.answer_octets.specs.TextLines.{tag_in, said}
+use Rattle.labels_batches.specs.Rendered.{with_tag, with_end}
+use Rattle.answer_octets.specs.TextLines.{tag_in, line_words}
 use Rattle.answer_octets.proofs.ReadBack.{tag-append, tag-none}
 
 -- no tags, or `@` and tags, each octet that of a word; and what is read of them under a key
@@ -27,7 +27,7 @@ has-some b tags = let some : length (b ∷ tags) ≢ 0 = omega arith in ne_eqb (
 with-more : (b : ℕ) (tags part : List ℕ) → with_tag (b ∷ tags) part ≡ b ∷ (tags ++ 59 ∷ part)
 with-more b tags part = ap (λ s. (b ∷ tags) ++ (s ++ part)) (cond-false _ (codes "@") (codes ";") (has-some b tags))
 
-ended-more : (b : ℕ) (tags : List ℕ) → ended (b ∷ tags) ≡ b ∷ (tags ++ 32 ∷ [])
+ended-more : (b : ℕ) (tags : List ℕ) → with_end (b ∷ tags) ≡ b ∷ (tags ++ 32 ∷ [])
 ended-more b tags = cond-false _ (b ∷ tags) ((b ∷ tags) ++ codes " ") (has-some b tags)
 
 or-none : (own read : Option (List ℕ)) → read ≡ None → own ≡ option_or own read
@@ -63,34 +63,34 @@ word-text (b ∷ bs) words =
 
 -- what is read of the tags before a line
 pub block-read : (key block u : List ℕ) (read : Option (List ℕ)) → bytes_eq [] key ≡ false → begins_with 64 u ≡ false
-    → IsBlock key read block → tag_in (ended block ++ u) key ≡ read
+    → IsBlock key read block → tag_in (with_end block ++ u) key ≡ read
 block-read key [] u read some plain is =
     ap (λ t. tag t key) (cond-false (begins_with 64 u) _ _ plain)
     ∙ tag-none key [] (and_from _ _ (not_from_false _ some) refl) ∙ sym is
 block-read key (b ∷ tags) u read some plain is =
-    subst (λ x. tag_in (ended (x ∷ tags) ++ u) key ≡ read) (sym is.0)
+    subst (λ x. tag_in (with_end (x ∷ tags) ++ u) key ≡ read) (sym is.0)
     (ap (λ t. tag_in (t ++ u) key) (ended-more 64 tags)
     ∙ ap (λ t. tag (before_space t) key) (append_assoc tags (32 ∷ []) u)
     ∙ ap (λ t. tag t key) (before_space-word tags (32 ∷ u) (word-free tags is.1) refl) ∙ is.2)
 
 -- what stands after them
 pub block-said : (key block u : List ℕ) (read : Option (List ℕ)) → begins_with 64 u ≡ false → IsBlock key read block
-    → said (ended block ++ u) ≡ after_source (without_spaces u)
+    → line_words (with_end block ++ u) ≡ after_source (without_spaces u)
 block-said key [] u read plain is =
     ap (λ t. after_source (without_spaces t)) (cond-false (begins_with 64 u) _ _ plain)
 block-said key (b ∷ tags) u read plain is =
-    subst (λ x. said (ended (x ∷ tags) ++ u) ≡ after_source (without_spaces u)) (sym is.0)
-    (ap (λ t. said (t ++ u)) (ended-more 64 tags)
+    subst (λ x. line_words (with_end (x ∷ tags) ++ u) ≡ after_source (without_spaces u)) (sym is.0)
+    (ap (λ t. line_words (t ++ u)) (ended-more 64 tags)
     ∙ ap (λ t. after_source (without_spaces (after_space t))) (append_assoc tags (32 ∷ []) u)
     ∙ ap (λ t. after_source (without_spaces t)) (after_space-word tags (32 ∷ u) (word-free tags is.1) refl))
 
 -- no octet of it ends a line
 pub block-text : (key block u : List ℕ) (read : Option (List ℕ)) → list_all is_text_octet u ≡ true
-    → IsBlock key read block → list_all is_text_octet (ended block ++ u) ≡ true
+    → IsBlock key read block → list_all is_text_octet (with_end block ++ u) ≡ true
 block-text key [] u read plain is = plain
 block-text key (b ∷ tags) u read plain is =
-    let front : list_all is_text_octet (ended (64 ∷ tags)) ≡ true =
+    let front : list_all is_text_octet (with_end (64 ∷ tags)) ≡ true =
     ap (list_all is_text_octet) (ended-more 64 tags) ∙ list_all-append is_text_octet tags (32 ∷ [])
     ∙ and_from _ _ (word-text tags is.1) refl in
-    subst (λ x. list_all is_text_octet (ended (x ∷ tags) ++ u) ≡ true) (sym is.0)
-    (list_all-append is_text_octet (ended (64 ∷ tags)) u ∙ and_from _ _ front plain)
+    subst (λ x. list_all is_text_octet (with_end (x ∷ tags) ++ u) ≡ true) (sym is.0)
+    (list_all-append is_text_octet (with_end (64 ∷ tags)) u ∙ and_from _ _ front plain)

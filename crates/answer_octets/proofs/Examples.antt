@@ -10,7 +10,7 @@ use Rattle.numerics.specs.Outgoing.{line}
 use Rattle.answer_octets.specs.Clean.{IsClean, IsCleanAnswer, IsMoment, IsTagText}
 use lib.Utf8.{encode}
 use Rattle.message_tags.specs.Tags.{counting_tags, key_shape, last_value}
-use Rattle.answer_octets.specs.TextLines.{command_of, label_lines, said, tag_in, text_lines}
+use Rattle.answer_octets.specs.TextLines.{command_of, label_lines, line_words, tag_in, text_lines}
 
 abbrev crlf : List ℕ
 crlf = 13 ∷ 10 ∷ []
@@ -47,8 +47,8 @@ reading :
     (tag_in (codes "@label=a\\:b\\sc :s PONG") (codes "label") ≡ Some (codes "a;b c"))
     × (tag_in (codes "@batch=9;label=a :s PONG") (codes "batch") ≡ Some (codes "9"))
     × (tag_in (codes ":s PONG") (codes "label") ≡ None)
-    × (said (codes "@label=j :irc.example BATCH +9 labeled-response") ≡ codes "BATCH +9 labeled-response")
-    × (said (codes "@label=j ACK") ≡ codes "ACK")
+    × (line_words (codes "@label=j :irc.example BATCH +9 labeled-response") ≡ codes "BATCH +9 labeled-response")
+    × (line_words (codes "@label=j ACK") ≡ codes "ACK")
     × (command_of (codes ":irc.example BATCH -9") ≡ codes "BATCH")
 unfolding counting_tags key_shape last_value is_utf8 chars encode
 reading = (refl, refl, refl, refl, refl, refl)

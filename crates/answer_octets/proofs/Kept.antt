@@ -5,7 +5,7 @@ use Rattle.std.specs.List.{flat_map, list_all, onto_first, slice_split}
 use Rattle.std.proofs.lemmas.Bool.{and_from, and_parts, cond_both}
 use Rattle.std.proofs.lemmas.List.Folds.{list_all-append}
 use Rattle.line_grammar.specs.Spelling.{is_text_octet}
-use Rattle.numerics.specs.Numerics.{spaced}
+use Rattle.numerics.specs.Numerics.{names_text}
 
 pub take-kept : (p : ℕ → Bool) (n : ℕ) (xs : List ℕ) → list_all p xs ≡ true → list_all p (take n xs) ≡ true
 take-kept p zero xs all = refl
@@ -51,7 +51,7 @@ after-kept (n ∷ ns) all =
 
 -- words in a row
 pub spaced-kept : (names : List (List ℕ)) → list_all (list_all is_text_octet) names ≡ true
-    → list_all is_text_octet (spaced names) ≡ true
+    → list_all is_text_octet (names_text names) ≡ true
 spaced-kept [] all = refl
 spaced-kept (n ∷ ns) all =
     let parts = and_parts _ _ all in

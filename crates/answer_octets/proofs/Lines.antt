@@ -13,20 +13,21 @@ use Rattle.line_grammar.specs.Lines.{before_space}
 use Rattle.line_grammar.specs.Reading.{after_source, without_spaces}
 use Rattle.line_grammar.specs.Spelling.{is_text_octet, is_word_octet}
 use Rattle.message_tags.specs.Tags.{key_of, key_shape, parts_of, tag}
-use Rattle.message_tags.specs.Value.{escaped}
+use Rattle.message_tags.specs.Value.{escapes_of}
 use Rattle.message_tags.proofs.ValueLemmas.{value-escaped}
 use Rattle.numerics.specs.CivilTime.{time_text}
 use Rattle.numerics.specs.declared.outgoing.Out.{Out}
-use Rattle.numerics.specs.Outgoing.{octets, spelled}
+use Rattle.numerics.specs.Outgoing.{octets, out_text}
 use Rattle.registration.specs.declared.caps.Cap.TheVariants.{MessageTags, ServerTime}
 use Rattle.registration.specs.declared.caps.Caps.{Caps}
 use Rattle.registration.specs.Caps.{is_on}
 use Rattle.labels_batches.specs.declared.answers.AnswerTag.{AnswerTag}
 use Rattle.labels_batches.specs.declared.answers.AnswerTag.TheVariants.{Label, Batch}
 use Rattle.labels_batches.specs.declared.answers.Tagged.{Tagged}
-use Rattle.labels_batches.specs.Rendered.{answered_tag, ended, relayed_tags, rendered, spelled_line, tag_block, timed}
+use Rattle.labels_batches.specs.Rendered.{answered_tag, with_end, relayed_tags, text_as, spelled_line, tag_block}
+use Rattle.labels_batches.specs.Rendered.{with_time}
 use Rattle.labels_batches.specs.Whole.{is_label_tag, labels}
-use Rattle.answer_octets.specs.TextLines.{command_of, has_label, label_lines, said, tag_in, text_lines}
+use Rattle.answer_octets.specs.TextLines.{command_of, has_label, label_lines, line_words, tag_in, text_lines}
 use Rattle.answer_octets.specs.Clean.{IsClean, IsCleanTag, IsCleanTagged, IsTagText, is_client_part}
 use Rattle.answer_octets.specs.Laws.{label_value, line_of}
 use Rattle.answer_octets.proofs.Blocks.{IsBlock, block-more, block-read, block-said, block-text}
@@ -67,11 +68,11 @@ batch-shape : key_shape (codes "batch") ≡ true
 unfolding key_shape
 batch-shape = refl
 
-label-tag : (label : List ℕ) → IsTagText label → tag (codes "label=" ++ escaped label) label_key ≡ Some label
+label-tag : (label : List ℕ) → IsTagText label → tag (codes "label=" ++ escapes_of label) label_key ≡ Some label
 label-tag label is =
     let plain = escaped-value label is.no_nul in
-    tag-same label_key (codes "label=" ++ escaped label) (value-lone (escaped label) plain)
-    (and_from _ _ label-shape (is_utf8-from_IsUtf8 (escaped label) (escaped-utf8 label is.is_text))) refl
+    tag-same label_key (codes "label=" ++ escapes_of label) (value-lone (escapes_of label) plain)
+    (and_from _ _ label-shape (is_utf8-from_IsUtf8 (escapes_of label) (escaped-utf8 label is.is_text))) refl
     ∙ ap Some (value-escaped label)
 
 batch-tag : (n : ℕ) → n < 2 ^ 64 → tag (codes "batch=" ++ decimal n) batch_key ≡ Some (decimal n)
@@ -86,7 +87,7 @@ label-block : (t : Option AnswerTag) → IsCleanTag t → IsBlock label_key (lab
 label-block None is = refl
 label-block (Some (Label label)) is = (
   refl,
-  value-word (escaped label) (escaped-value label is.no_nul),
+  value-word (escapes_of label) (escaped-value label is.no_nul),
   label-tag label is,
 )
 label-block (Some (Batch n)) is =
@@ -101,8 +102,8 @@ batch-block None is = refl
 batch-block (Some (Label label)) is =
     let plain = escaped-value label is.no_nul in (
       refl,
-      value-word (escaped label) plain,
-      tag-other batch_key (codes "label=" ++ escaped label) (value-lone (escaped label) plain) refl,
+      value-word (escapes_of label) plain,
+      tag-other batch_key (codes "label=" ++ escapes_of label) (value-lone (escapes_of label) plain) refl,
     )
 batch-block (Some (Batch n)) is = (
   refl,
@@ -125,7 +126,7 @@ batch-server : IsServerKey batch_key
 batch-server = record { some = refl; no_client = λ bs. refl; no_time = refl }
 
 timed-block : (key block : List ℕ) (read : Option (List ℕ)) (caps : Caps) (m : ℤ) → IsServerKey key
-    → list_all is_value_octet (time_text m) ≡ true → IsBlock key read block → IsBlock key read (timed caps m block)
+    → list_all is_value_octet (time_text m) ≡ true → IsBlock key read block → IsBlock key read (with_time caps m block)
 timed-block key block read caps m server time is =
     cond_both (is_on caps ServerTime) _ _ (IsBlock key read)
     (λ _. block-more key block (codes "time=" ++ time_text m) read None is (value-word (time_text m) time)
@@ -162,23 +163,23 @@ module _ (caps : Caps) (m : ℤ) (time : list_all is_value_octet (time_text m) �
       (timed-block batch_key _ _ caps m batch-server time (batch-block t.tag c.tag))
 
   pub label-read : tag_in (line_of caps m t) label_key ≡ label_value t.tag
-  label-read = block-read label_key (tag_block caps m t) (take 510 (spelled t.line)) (label_value t.tag) refl
+  label-read = block-read label_key (tag_block caps m t) (take 510 (out_text t.line)) (label_value t.tag) refl
       (spelled-plain t.line c.line) whole-label
 
   pub batch-read : tag_in (line_of caps m t) batch_key ≡ batch_value t.tag
-  batch-read = block-read batch_key (tag_block caps m t) (take 510 (spelled t.line)) (batch_value t.tag) refl
+  batch-read = block-read batch_key (tag_block caps m t) (take 510 (out_text t.line)) (batch_value t.tag) refl
       (spelled-plain t.line c.line) whole-batch
 
   pub line-text : list_all is_text_octet (line_of caps m t) ≡ true
-  line-text = block-text label_key (tag_block caps m t) (take 510 (spelled t.line)) (label_value t.tag)
-      (text-take 510 (spelled t.line) (spelled-text t.line c.line)) whole-label
+  line-text = block-text label_key (tag_block caps m t) (take 510 (out_text t.line)) (label_value t.tag)
+      (text-take 510 (out_text t.line) (spelled-text t.line c.line)) whole-label
 
   pub command-read : command_of (line_of caps m t) ≡ t.line.command
-  command-read = ap before_space (block-said label_key (tag_block caps m t) (take 510 (spelled t.line))
+  command-read = ap before_space (block-said label_key (tag_block caps m t) (take 510 (out_text t.line))
       (label_value t.tag) (spelled-plain t.line c.line) whole-label) ∙ spelled-command t.line c.line
 
-  pub said-read : said (line_of caps m t) ≡ after_source (without_spaces (take 510 (spelled t.line)))
-  said-read = block-said label_key (tag_block caps m t) (take 510 (spelled t.line)) (label_value t.tag)
+  pub said-read : line_words (line_of caps m t) ≡ after_source (without_spaces (take 510 (out_text t.line)))
+  said-read = block-said label_key (tag_block caps m t) (take 510 (out_text t.line)) (label_value t.tag)
       (spelled-plain t.line c.line) whole-label
 
 label-some : (t : Option AnswerTag) → is_some (label_value t) ≡ is_label_tag t
@@ -188,18 +189,18 @@ label-some (Some (Batch n)) = refl
 
 spelled-as : (caps : Caps) (m : ℤ) (t : Tagged) → spelled_line caps m t ≡ line_of caps m t ++ 13 ∷ 10 ∷ []
 unfolding spelled_line octets
-spelled-as caps m t = sym (append_assoc (ended (tag_block caps m t)) (take 510 (spelled t.line)) (13 ∷ 10 ∷ []))
+spelled-as caps m t = sym (append_assoc (with_end (tag_block caps m t)) (take 510 (out_text t.line)) (13 ∷ 10 ∷ []))
 
 -- ---- a text
 
 pub cut-rendered : (caps : Caps) (m : ℤ) → list_all is_value_octet (time_text m) ≡ true → (ts : List Tagged)
-    → All IsCleanTagged ts → text_lines (rendered caps m ts) ≡ map (line_of caps m) ts
+    → All IsCleanTagged ts → text_lines (text_as caps m ts) ≡ map (line_of caps m) ts
 cut-rendered caps m time [] are = refl
 cut-rendered caps m time (t ∷ ts) are =
     let first = line_of caps m t in
-    ap (λ s. text_lines (s ++ rendered caps m ts)) (spelled-as caps m t)
-    ∙ ap text_lines (append_assoc first (13 ∷ 10 ∷ []) (rendered caps m ts))
-    ∙ cut-first first (rendered caps m ts) (line-text caps m time t (All-head IsCleanTagged t ts are))
+    ap (λ s. text_lines (s ++ text_as caps m ts)) (spelled-as caps m t)
+    ∙ ap text_lines (append_assoc first (13 ∷ 10 ∷ []) (text_as caps m ts))
+    ∙ cut-first first (text_as caps m ts) (line-text caps m time t (All-head IsCleanTagged t ts are))
     ∙ ap (λ ls. first ∷ ls) (cut-rendered caps m time ts (All-tail IsCleanTagged t ts are))
 
 pub all-text : (caps : Caps) (m : ℤ) → list_all is_value_octet (time_text m) ≡ true → (ts : List Tagged)
@@ -228,6 +229,6 @@ count-lines caps m time (t ∷ ts) are =
 
 -- as many lines have a label as one was put to
 pub label-count : (caps : Caps) (m : ℤ) → list_all is_value_octet (time_text m) ≡ true → (ts : List Tagged)
-    → All IsCleanTagged ts → label_lines (rendered caps m ts) ≡ labels ts
+    → All IsCleanTagged ts → label_lines (text_as caps m ts) ≡ labels ts
 label-count caps m time ts are =
     ap (λ ls. length (filter has_label ls)) (cut-rendered caps m time ts are) ∙ count-lines caps m time ts are

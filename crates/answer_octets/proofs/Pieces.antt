@@ -7,7 +7,7 @@ use Rattle.std.proofs.lemmas.List.Folds.{list_all-append}
 use Rattle.line_grammar.specs.declared.message.Message.{Message}
 use Rattle.line_grammar.specs.Grammar.{IsFreeOf, Reads, SpellsParameters, SpellsTags, none, middle, trailing}
 use Rattle.line_grammar.specs.Grammar.{fifteenth}
-use Rattle.line_grammar.specs.Lines.{ended, is_line_end, is_too_long, longer, piece_of}
+use Rattle.line_grammar.specs.Lines.{ended_lines, is_line_end, is_too_long, longer, piece_of}
 use Rattle.line_grammar.specs.Spelling.{is_text_octet, is_word_octet}
 use Rattle.line_grammar.proofs.Readings.{command_is}
 use Rattle.line_grammar.proofs.Spelled.{reading_is_reads}
@@ -26,11 +26,11 @@ longer-inside b [] one all = refl
 longer-inside b (l ∷ ls) one all =
     let parts = and_parts _ _ all in and_from _ _ (and_from _ _ one parts.0) parts.1
 
-ended-inside : (bs : List ℕ) → list_all (list_all is_inside) (ended bs) ≡ true
+ended-inside : (bs : List ℕ) → list_all (list_all is_inside) (ended_lines bs) ≡ true
 ended-inside [] = refl
 ended-inside (b ∷ bs) =
     cond_both (is_line_end b) _ _ (λ ls. list_all (list_all is_inside) ls ≡ true) (λ _. ended-inside bs)
-    (λ other. longer-inside b (ended bs) (not_from_false _ other) (ended-inside bs))
+    (λ other. longer-inside b (ended_lines bs) (not_from_false _ other) (ended-inside bs))
 
 piece-one : (line : List ℕ) → list_all is_inside line ≡ true → list_all is_one_line (piece_of line) ≡ true
 piece-one [] inside = refl
@@ -46,7 +46,7 @@ all-one (l ∷ ls) inside =
     ∙ and_from _ _ (piece-one l parts.0) (all-one ls parts.1)
 
 pub pieces-one : PiecesAreOneLine
-pieces-one stream = all-one (ended stream) (ended-inside stream)
+pieces-one stream = all-one (ended_lines stream) (ended-inside stream)
 
 -- ---- what is read
 

@@ -16,7 +16,7 @@ use Rattle.message_tags.specs.ClientOnly.{spelling_of, spellings}
 use Rattle.message_tags.specs.Tags.{counting_tags, counts, key_of, key_shape, lies_between, name_octet}
 use Rattle.message_tags.specs.Tags.{parts_of, parts_shape, path_shape, raw_value_of}
 use Rattle.message_tags.specs.Tags.{tag_of, vendor_octet}
-use Rattle.message_tags.specs.Value.{escaped}
+use Rattle.message_tags.specs.Value.{escapes_of}
 use Rattle.answer_octets.specs.Clean.{IsRelayed, is_client_part, is_no_nul}
 use Rattle.answer_octets.specs.Laws.{RelayedIsClients}
 use Rattle.answer_octets.proofs.Lines.{value-lone, value-word}
@@ -163,9 +163,9 @@ part-is : (t : Tag) → IsTag t → is_client_only t ≡ true → IsPart (spelli
 part-is t is marked =
     cond_both (eqb (length t.value) 0) _ _ IsPart (λ _. record { value = is.key; client = client-key t.key marked })
     (λ _. record {
-      value = list_all-append is_value_octet t.key (61 ∷ escaped t.value)
+      value = list_all-append is_value_octet t.key (61 ∷ escapes_of t.value)
           ∙ and_from _ _ is.key (escaped-value t.value is.no_nul);
-      client = client-front t.key (61 ∷ escaped t.value) marked;
+      client = client-front t.key (61 ∷ escapes_of t.value) marked;
     })
 
 parts-more : (b : Bool) (t : Tag) (rest : List Tag) → is_client_only t ≡ b → IsTag t → AreParts (map spelling_of rest)

@@ -10,11 +10,11 @@ use Rattle.line_grammar.specs.Grammar.{IsLetter, IsDigit, IsCommand}
 use Rattle.line_grammar.specs.Lines.{before_space, after_space}
 use Rattle.line_grammar.specs.Reading.{after_source, begins_with, without_spaces}
 use Rattle.line_grammar.specs.Spelling.{is_text_octet, is_word_octet, plain_count, spelled_params}
-use Rattle.line_grammar.specs.Spelling.{spelled_source, untagged}
+use Rattle.line_grammar.specs.Spelling.{spelled_source, bare_line}
 use Rattle.line_grammar.proofs.Readings.{BeginsApart, before_space-word, after_space-word, is_a_command}
 use Rattle.line_grammar.proofs.Spelled.{command_free}
 use Rattle.numerics.specs.declared.outgoing.Out.{Out}
-use Rattle.numerics.specs.Outgoing.{spelled}
+use Rattle.numerics.specs.Outgoing.{out_text}
 use Rattle.answer_octets.specs.Clean.{IsClean}
 use Rattle.answer_octets.proofs.Blocks.{word-free, word-text}
 
@@ -105,8 +105,8 @@ source-text : (source : Option (List ℕ)) → IfSome source (λ s. list_all is_
 source-text None is = refl
 source-text (Some s) is = text-both s (32 ∷ []) (word-text s is) refl
 
-pub spelled-text : (o : Out) → IsClean o → AreText (spelled o)
-unfolding untagged
+pub spelled-text : (o : Out) → IsClean o → AreText (out_text o)
+unfolding bare_line
 spelled-text o c =
     text-both (spelled_source o.source) (o.command ++ spelled_params o.params o.colon) (source-text o.source c.source)
     (text-both o.command (spelled_params o.params o.colon) (command-text o.command (is_a_command o.command c.command))
@@ -127,9 +127,9 @@ plain-taken : (s : List ℕ) → begins_with 64 s ≡ false → begins_with 64 (
 plain-taken [] plain = refl
 plain-taken (b ∷ bs) plain = plain
 
-pub spelled-plain : (o : Out) → IsClean o → begins_with 64 (take 510 (spelled o)) ≡ false
-unfolding untagged
-spelled-plain o c = plain-taken (spelled o) (plain-source o.source o.command (spelled_params o.params o.colon)
+pub spelled-plain : (o : Out) → IsClean o → begins_with 64 (take 510 (out_text o)) ≡ false
+unfolding bare_line
+spelled-plain o c = plain-taken (out_text o) (plain-source o.source o.command (spelled_params o.params o.colon)
     (command-begins o.command (is_a_command o.command c.command)))
 
 -- ---- what it says after its source
@@ -176,16 +176,16 @@ params-apart ps colon =
     (flat-apart (58 ∷ []) (drop count ps) [] tt))
 
 -- the first word is the command
-pub spelled-command : (o : Out) → IsClean o → before_space (after_source (without_spaces (take 510 (spelled o))))
+pub spelled-command : (o : Out) → IsClean o → before_space (after_source (without_spaces (take 510 (out_text o))))
     ≡ o.command
-unfolding untagged
+unfolding bare_line
 spelled-command o c =
     let front = spelled_source o.source ++ o.command in
     let params = spelled_params o.params o.colon in
     let left = 510 - length front in
     let is = is_a_command o.command c.command in
     let begins = command-begins o.command is in
-    let whole : take 510 (spelled o) ≡ spelled_source o.source ++ (o.command ++ take left params) = ap (take 510)
+    let whole : take 510 (out_text o) ≡ spelled_source o.source ++ (o.command ++ take left params) = ap (take 510)
     (sym (append_assoc (spelled_source o.source) o.command params)) ∙ take-past 510 front params c.fits
     ∙ append_assoc (spelled_source o.source) o.command (take left params) in
     ap (λ t. before_space (after_source (without_spaces t))) whole

@@ -12,7 +12,7 @@ use Rattle.std.proofs.lemmas.Str.{len_utf8_bounds}
 use lib.Utf8.{encode, encodes, scalar, scalars}
 use Rattle.line_grammar.specs.Spelling.{is_word_octet}
 use Rattle.answer_octets.specs.Clean.{is_no_nul}
-use Rattle.message_tags.specs.Value.{value, meaning_of, escape_of, escaped}
+use Rattle.message_tags.specs.Value.{value, meaning_of, escape_of, escapes_of}
 use Rattle.message_tags.proofs.ValueLemmas.{value_at_plain}
 
 -- ---- octets from 128 on
@@ -51,9 +51,10 @@ meant b high =
     let r : b ≢ 114 = omega arith in let n : b ≢ 110 = omega arith in
     rw (ne_eqb b 58 c, ne_eqb b 115 s, ne_eqb b 114 r, ne_eqb b 110 n) refl
 
-escaped-high : (bs : List ℕ) → IsHigh bs → escaped bs ≡ bs
+escaped-high : (bs : List ℕ) → IsHigh bs → escapes_of bs ≡ bs
 escaped-high [] high = refl
-escaped-high (b ∷ bs) high = ap (λ xs. xs ++ escaped bs) (plain b high.0) ∙ ap (λ xs. b ∷ xs) (escaped-high bs high.1)
+escaped-high (b ∷ bs) high = ap (λ xs. xs ++ escapes_of bs) (plain b high.0)
+    ∙ ap (λ xs. b ∷ xs) (escaped-high bs high.1)
 
 value-plain : (b : ℕ) (rest : List ℕ) → b ≢ 92 → value (b ∷ rest) ≡ b ∷ value rest
 value-plain b rest other = value_at_plain [] b rest other
@@ -99,23 +100,24 @@ meaning-utf8 c low is =
 
 -- ---- a text, escaped
 
-escaped-one : (c : ℕ) → scalar c ≡ true → IsUtf8 (escaped (encode c))
+escaped-one : (c : ℕ) → scalar c ≡ true → IsUtf8 (escapes_of (encode c))
 escaped-one c is =
     elim (cases_lt c 128) [
-      | inl low ↦ subst (λ bs. IsUtf8 (escaped bs)) (sym (encode_ascii c low))
+      | inl low ↦ subst (λ bs. IsUtf8 (escapes_of bs)) (sym (encode_ascii c low))
           (subst IsUtf8 (sym (append-nil (escape_of c))) (escape-utf8 c low is))
       | inr high ↦ subst IsUtf8 (sym (escaped-high (encode c) (encode-high c high))) (IsUtf8-encode c is)
     ]
 
-escaped-encodes : (cs : List ℕ) → scalars cs ≡ true → IsUtf8 (escaped (encodes cs))
+escaped-encodes : (cs : List ℕ) → scalars cs ≡ true → IsUtf8 (escapes_of (encodes cs))
 escaped-encodes [] are = IsUtf8-nil
 escaped-encodes (c ∷ cs) are =
     let parts = and_parts _ _ are in
     subst IsUtf8 (sym (flat_map-append escape_of (encode c) (encodes cs)))
-    (IsUtf8-append (escaped (encode c)) (escaped (encodes cs)) (escaped-one c parts.0) (escaped-encodes cs parts.1))
+    (IsUtf8-append (escapes_of (encode c)) (escapes_of (encodes cs)) (escaped-one c parts.0)
+    (escaped-encodes cs parts.1))
 
-pub escaped-utf8 : (text : List ℕ) → IsUtf8 text → IsUtf8 (escaped text)
-escaped-utf8 text is = subst (λ bs. IsUtf8 (escaped bs)) is.1.1 (escaped-encodes is.0 is.1.0)
+pub escaped-utf8 : (text : List ℕ) → IsUtf8 text → IsUtf8 (escapes_of text)
+escaped-utf8 text is = subst (λ bs. IsUtf8 (escapes_of bs)) is.1.1 (escaped-encodes is.0 is.1.0)
 
 -- ---- a text whose escapes are read
 
@@ -175,11 +177,11 @@ escape-value b some =
     (λ cr. cond_both (eqb b 10) _ _ AreValue (λ _. refl)
     (λ lf. rw (semicolon, space, cr, lf, not-true _ some) refl)))))
 
-pub escaped-value : (text : List ℕ) → list_all is_no_nul text ≡ true → list_all is_value_octet (escaped text) ≡ true
+pub escaped-value : (text : List ℕ) → list_all is_no_nul text ≡ true → list_all is_value_octet (escapes_of text) ≡ true
 escaped-value [] some = refl
 escaped-value (b ∷ bs) some =
     let parts = and_parts _ _ some in
-    list_all-append is_value_octet (escape_of b) (escaped bs)
+    list_all-append is_value_octet (escape_of b) (escapes_of bs)
     ∙ and_from _ _ (escape-value b parts.0) (escaped-value bs parts.1)
 
 meaning-some : (b : ℕ) → is_no_nul b ≡ true → is_no_nul (meaning_of b) ≡ true

@@ -13,7 +13,7 @@ use Rattle.line_grammar.specs.Reading.{is_command, reading}
 use Rattle.message_tags.specs.ClientOnly.{client_only_data}
 use Rattle.message_tags.specs.Tags.{counting_tags}
 use Rattle.numerics.specs.declared.outgoing.Out.{Out}
-use Rattle.numerics.specs.Outgoing.{line, spelled}
+use Rattle.numerics.specs.Outgoing.{line, out_text}
 use Rattle.numerics.specs.Numerics.{numeric, row}
 use Rattle.numerics.specs.declared.numeric.Numeric.{Numeric}
 use Rattle.registration.specs.declared.caps.Caps.{Caps}
@@ -22,17 +22,17 @@ use Rattle.registration.specs.Settings.{IsWellSet}
 use Rattle.labels_batches.specs.declared.answers.AnswerTag.{AnswerTag}
 use Rattle.labels_batches.specs.declared.answers.AnswerTag.TheVariants.{Label}
 use Rattle.labels_batches.specs.declared.answers.Tagged.{Tagged}
-use Rattle.labels_batches.specs.Answers.{answered, tagged_as}
+use Rattle.labels_batches.specs.Answers.{whole_answer, tagged_as}
 use Rattle.labels_batches.specs.Labels.{label_of}
-use Rattle.labels_batches.specs.Rendered.{ended, rendered, tag_block}
+use Rattle.labels_batches.specs.Rendered.{with_end, text_as, tag_block}
 use Rattle.labels_batches.specs.Whole.{OpensNoBatch}
-use Rattle.answer_octets.specs.TextLines.{command_of, label_lines, said, tag_in, text_lines, label_answers}
+use Rattle.answer_octets.specs.TextLines.{command_of, label_lines, line_words, tag_in, text_lines, label_answers}
 use Rattle.answer_octets.specs.Clean.{HasText, IsClean, IsCleanAnswer, IsCleanTagged, IsMoment}
 use Rattle.answer_octets.specs.Clean.{IsRelayed, IsServer, IsTagText, IsTextRow, IsWordOf, is_no_nul, is_one_line}
 
 -- a line as it goes out, without its CR LF
 abbrev pub line_of : Caps → ℤ → Tagged → List ℕ
-line_of caps m t = ended (tag_block caps m t) ++ take 510 (spelled t.line)
+line_of caps m t = with_end (tag_block caps m t) ++ take 510 (out_text t.line)
 
 -- the label that was put to a line
 abbrev pub label_value : Option AnswerTag → Option (List ℕ)
@@ -54,18 +54,18 @@ pub record IsBatchText (label reference copies text : List ℕ) : Type 0 where
   pub ending : List ℕ
   pub lines : text_lines text ≡ opening ∷ between ++ ending ∷ text_lines copies
   pub labelled : tag_in opening (codes "label") ≡ Some label
-  pub opens : said opening ≡ codes "BATCH +" ++ reference ++ codes " labeled-response"
+  pub opens : line_words opening ≡ codes "BATCH +" ++ reference ++ codes " labeled-response"
   pub several : 2 ≤ length between
   pub in_batch : All (λ l. tag_in l (codes "batch") ≡ Some reference) between
-  pub ends : said ending ≡ codes "BATCH -" ++ reference
+  pub ends : line_words ending ≡ codes "BATCH -" ++ reference
 
 -- ---- laws
 
 -- a text of clean lines is cut into them again, and none of them has a NUL, a CR or an LF
 abbrev pub LinesAreCut : Type 0
 LinesAreCut = (caps : Caps) (m : ℤ) (ts : List Tagged) → IsMoment m → All IsCleanTagged ts
-    → (text_lines (rendered caps m ts) ≡ map (line_of caps m) ts)
-    × (list_all (list_all is_text_octet) (text_lines (rendered caps m ts)) ≡ true)
+    → (text_lines (text_as caps m ts) ≡ map (line_of caps m) ts)
+    × (list_all (list_all is_text_octet) (text_lines (text_as caps m ts)) ≡ true)
 
 -- the label that is read of a line is the one that was put to it
 abbrev pub LabelIsRead : Type 0
@@ -76,21 +76,21 @@ LabelIsRead = (caps : Caps) (m : ℤ) (t : Tagged) → IsMoment m → IsCleanTag
 abbrev pub OneLabel : Type 0
 OneLabel = (caps : Caps) (m : ℤ) (server label : List ℕ) (n : ℕ) (reply copies : List Out)
     → IsCleanAnswer m server label n reply copies
-    → label_lines (rendered caps m (answered server (Some label) n reply copies)) ≡ 1
+    → label_lines (text_as caps m (whole_answer server (Some label) n reply copies)) ≡ 1
 
 -- an answer of one line at most is one line, which opens no batch where the line itself is no BATCH
 abbrev pub LoneIsWhole : Type 0
 LoneIsWhole = (caps : Caps) (m : ℤ) (server label : List ℕ) (n : ℕ) (reply copies : List Out)
     → IsCleanAnswer m server label n reply copies → length reply ≤ 1 → OpensNoBatch reply
-    → IsLoneText label (rendered caps m (map (tagged_as None) copies))
-    (rendered caps m (answered server (Some label) n reply copies))
+    → IsLoneText label (text_as caps m (map (tagged_as None) copies))
+    (text_as caps m (whole_answer server (Some label) n reply copies))
 
 -- an answer of several is a batch that is closed, whose reference is the record's number
 abbrev pub SeveralAreWhole : Type 0
 SeveralAreWhole = (caps : Caps) (m : ℤ) (server label : List ℕ) (n : ℕ) (reply copies : List Out)
     → IsCleanAnswer m server label n reply copies → 2 ≤ length reply
-    → IsBatchText label (decimal n) (rendered caps m (map (tagged_as None) copies))
-    (rendered caps m (answered server (Some label) n reply copies))
+    → IsBatchText label (decimal n) (text_as caps m (map (tagged_as None) copies))
+    (text_as caps m (whole_answer server (Some label) n reply copies))
 
 -- a label that counts is a text without NUL
 abbrev pub CountedLabelIsText : Type 0

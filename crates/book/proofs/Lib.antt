@@ -7,3 +7,4 @@ pub mod Ties
 pub mod Since
 pub mod Turns
 pub mod Tells
+pub use Rattle.ledger.proofs.Opened

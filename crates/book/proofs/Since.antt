@@ -9,7 +9,7 @@ use Rattle.deliveries.specs.Items.{deliveries}
 use Rattle.deliveries.specs.Owed.{owed}
 use Rattle.deliveries.proofs.GoesOn.{owed_kept, accepted_kept}
 use Rattle.register.specs.declared.claims.Row.{Row}
-use Rattle.ledger.specs.Ledger.{Shown, box_at, sent_by, planned, base_of, rolled, IsKnown, IsLeft, IsSound}
+use Rattle.ledger.specs.Ledger.{Shown, box_at, sent_by, plan_part, base_of, after_roll, IsKnown, IsLeft, IsSound}
 use Rattle.book.specs.Reaping.{IsAllOwed, AreAllAccepted}
 use Rattle.book.specs.Tied.{IsTied}
 use Rattle.book.proofs.Ties.{rolled_ties}
@@ -21,8 +21,8 @@ all_owed sent taken m s taker count i idle known l =
     let few : s ≤ length m.outboxes = let a = known.opened in let b = i.sessions in omega arith in
     let boxed : deliveries (sent l.outbox) ≡ owed m.settings m.history s =
     sym (append-nil (deliveries (sent l.outbox)))
-    ∙ sym (ap (λ ps. deliveries (sent l.outbox) ++ planned ps s) (i.idle idle)) ∙ sym
-    (ap (λ o. deliveries (sent_by sent o) ++ planned m.plan s) l.here) ∙ i.owed s known.from_1 few known.here in
+    ∙ sym (ap (λ ps. deliveries (sent l.outbox) ++ plan_part ps s) (i.idle idle)) ∙ sym
+    (ap (λ o. deliveries (sent_by sent o) ++ plan_part m.plan s) l.here) ∙ i.owed s known.from_1 few known.here in
     let all : deliveries (taken l.outbox taker ++ l.left)
     ≡ owed m.settings m.history s = sym (ap deliveries l.rest) ∙ boxed in
     record {
@@ -45,6 +45,6 @@ all_accepted m s pieces all = record {
 
 -- whatever was answered
 pub rolls_ties : {O N A E : Type 0} (name : O → N) (m k : Shown O) (rows : List (Row N)) (r : Result A E)
-    → OnOk r (k ≡ rolled m) → OnErr r (k ≡ m) → IsTied name m rows → IsTied name k rows
+    → OnOk r (k ≡ after_roll m) → OnErr r (k ≡ m) → IsTied name m rows → IsTied name k rows
 rolls_ties name m k rows (Ok x) ok err tied = subst (λ b. IsTied name b rows) (sym ok) (rolled_ties name m rows tied)
 rolls_ties name m k rows (Err e) ok err tied = subst (λ b. IsTied name b rows) (sym err) tied

@@ -20,9 +20,10 @@ use Rattle.register.proofs.Rows.{cond_is, first_outbox, rest_outbox, piece_outbo
 use Rattle.book.specs.Standing.{Begun, StandsFor, begun_by}
 use Rattle.book.proofs.Standing.{nothing, opens, passes, begins, finishes, misses, known}
 use Rattle.ledger.specs.declared.plan.Planned.{Planned}
-use Rattle.ledger.specs.declared.out.Step.{Step}
-use Rattle.ledger.specs.declared.out.Step.TheVariants.{Put, Missed}
-use Rattle.ledger.specs.Ledger.{Shown, box_at, plan_of, empty_ledger, opened, begun, finished, rolled, reaped, dropped}
+use Rattle.ledger.specs.declared.outcomes.Step.{Step}
+use Rattle.ledger.specs.declared.outcomes.Step.TheVariants.{Put, Missed}
+use Rattle.ledger.specs.Ledger.{Shown, box_at, plan_of, empty_ledger, after_open, after_begin, after_end, after_roll}
+use Rattle.ledger.specs.Ledger.{after_reap, after_miss}
 use Rattle.ledger.specs.Ledger.{IsPutNext, IsPutAll, IsDone, newest_actor, next_of, newest_next, line_of, newest_line}
 use Rattle.ledger.specs.Ledger.{Out, IsOut}
 use Rattle.ledger.specs.Legal.{IsKind, IsLegal}
@@ -140,7 +141,7 @@ module _ {O : Type 0} (accepts : O → Item → O → Type 0) (refuses : O → P
   put_all_said m k (q ∷ qs) s p = put_all_said p.0 k qs s p.3 ∙ put_said m p.0 (q ∷ qs) (Some p.1) s p.2
 
   -- which is its line, when all of it was put
-  pub line_said : (m n k : Shown O) (s i : ℕ) (p : Piece) (moment : ℤ) → n ≡ begun m (Said s i p) moment
+  pub line_said : (m n k : Shown O) (s i : ℕ) (p : Piece) (moment : ℤ) → n ≡ after_begin m (Said s i p) moment
       → IsPutAll accepts refuses n n.plan k → newest_said k.history s ≡ p ∷ []
   line_said m n k s i p moment is put = put_all_said n k n.plan s put ∙ ap (λ b. newest_said b.history s) is
       ∙ cond_is (s == s) true (p ∷ []) [] (eq-eqb s s refl)
@@ -162,7 +163,7 @@ module _ {O : Type 0} (accepts : O → Item → O → Type 0) (refuses : O → P
         })
     put_ties m k (q ∷ qs) (Some (Missed t)) rows p i =
         let d = p.1 in
-        let same : begun_of m ≡ begun_of (dropped m q qs) = ap
+        let same : begun_of m ≡ begun_of (after_miss m q qs) = ap
         (λ l. cond m.busy l None) (sym (line_missed m.history q.session)) in
         subst (λ n. IsTied name n rows) (sym d.book)
         (record {
@@ -191,7 +192,7 @@ module _ {O N : Type 0} (name : O → N) where
   pub opened_ties : (m : Shown O) (host : List ℕ) (moment : ℤ) (box : O) (rows : List (Row N)) → m.busy ≡ false
       → sessions m.history ≡ length m.outboxes → accepted m.history (sessions m.history + 1) ≡ []
       → IsTied name m rows
-      → IsTied name (opened m host moment box) (new_row (sessions m.history + 1) (name box) ∷ rows)
+      → IsTied name (after_open m host moment box) (new_row (sessions m.history + 1) (name box) ∷ rows)
   opened_ties m host moment box rows idle many none i =
       let h = m.history in
       let n = sessions h + 1 in
@@ -218,7 +219,7 @@ module _ {O N : Type 0} (name : O → N) where
   -- ---- a record is begun
 
   pub said_ties : (m : Shown O) (s i : ℕ) (p : Piece) (moment : ℤ) (rows : List (Row N)) → m.busy ≡ false
-      → IsTied name m rows → IsTied name (begun m (Said s i p) moment) rows
+      → IsTied name m rows → IsTied name (after_begin m (Said s i p) moment) rows
   said_ties m s i p moment rows idle tied = record {
     stands = begins rows m.history
         (fresh_record m.history moment (Said s i p)) s i p (idle_stands m rows idle tied) refl;
@@ -226,7 +227,7 @@ module _ {O N : Type 0} (name : O → N) where
   }
 
   pub gone_ties : (m : Shown O) (s : ℕ) (moment : ℤ) (rows : List (Row N)) → m.busy ≡ false → IsTied name m rows
-      → IsTied name (begun m (Gone s) moment) rows
+      → IsTied name (after_begin m (Gone s) moment) rows
   gone_ties m s moment rows idle tied = record {
     stands = passes rows None m.history
         (fresh_record m.history moment (Gone s)) (idle_stands m rows idle tied) refl (λ t. refl);
@@ -234,7 +235,7 @@ module _ {O N : Type 0} (name : O → N) where
   }
 
   pub tick_ties : (m : Shown O) (moment : ℤ) (rows : List (Row N)) → m.busy ≡ false → IsTied name m rows
-      → IsTied name (begun m Ticked moment) rows
+      → IsTied name (after_begin m Ticked moment) rows
   tick_ties m moment rows idle tied = record {
     stands = passes rows None m.history
         (fresh_record m.history moment Ticked) (idle_stands m rows idle tied) refl (λ t. refl);
@@ -242,7 +243,7 @@ module _ {O N : Type 0} (name : O → N) where
   }
 
   pub hung_ties : (m : Shown O) (s : ℕ) (why : Why) (moment : ℤ) (rows : List (Row N)) → m.busy ≡ false
-      → IsTied name m rows → IsTied name (begun m (Hung s why) moment) rows
+      → IsTied name m rows → IsTied name (after_begin m (Hung s why) moment) rows
   hung_ties m s why moment rows idle tied = record {
     stands = passes rows None m.history (fresh_record m.history
         moment (Hung s why)) (idle_stands m rows idle tied) refl (λ t. refl);
@@ -252,24 +253,25 @@ module _ {O N : Type 0} (name : O → N) where
   -- ---- the plan is given back
 
   pub line_ties : (m : Shown O) (s : ℕ) (p : Piece) (rows : List (Row N)) → begun_of m ≡ Some (s, p)
-      → IsTied name m rows → IsTied name (finished m) (with_piece rows s p)
+      → IsTied name m rows → IsTied name (after_end m) (with_piece rows s p)
   line_ties m s p rows line tied = record {
     stands = finishes rows m.history s p (subst (λ (b : Begun). StandsFor rows b m.history) line tied.stands);
     names = λ t from. IfSome_then (box_at m.outboxes t) (tied.names t from) (λ o e. piece_outbox rows s p t ∙ e);
   }
 
   pub sweep_ties : (m : Shown O) (rows : List (Row N)) → begun_of m ≡ None → IsTied name m rows
-      → IsTied name (finished m) rows
+      → IsTied name (after_end m) rows
   sweep_ties m rows none tied =
       record { stands = subst (λ (b : Begun). StandsFor rows b m.history) none tied.stands; names = tied.names }
 
   -- ---- a session is given up
 
   -- no record counts less where all were dropped
-  pub rolled_ties : (m : Shown O) (rows : List (Row N)) → IsTied name m rows → IsTied name (rolled m) rows
+  pub rolled_ties : (m : Shown O) (rows : List (Row N)) → IsTied name m rows → IsTied name (after_roll m) rows
   rolled_ties m rows tied = record { stands = tied.stands; names = tied.names }
 
-  pub reaped_ties : (m : Shown O) (s : ℕ) (rows : List (Row N)) → IsTied name m rows → IsTied name (reaped m s) rows
+  pub reaped_ties : (m : Shown O) (s : ℕ) (rows : List (Row N)) → IsTied name m rows
+      → IsTied name (after_reap m s) rows
   reaped_ties m s rows tied = record {
     stands = tied.stands;
     names = λ t from. taken_out
@@ -304,10 +306,10 @@ module _ {O N : Type 0} (name : O → N) where
       → IsDone accepts refuses m (Hung s why) moment k → IsTied name m rows → IsTied name k rows
   hung_done_ties accepts refuses stays m k s why moment rows idle d tied =
       let n = d.0 in
-      let begun_ = put_all_ties accepts refuses name stays (begun m (Hung s why) moment) n
+      let begun_ = put_all_ties accepts refuses name stays (after_begin m (Hung s why) moment) n
       (plan_of m.settings m.history (Hung s why) moment (length m.outboxes)) rows d.1
       (hung_ties m s why moment rows idle tied) in
-      let line : begun_of n ≡ None = (put_all_line accepts refuses (begun m (Hung s why) moment) n
+      let line : begun_of n ≡ None = (put_all_line accepts refuses (after_begin m (Hung s why) moment) n
       (plan_of m.settings m.history (Hung s why) moment (length m.outboxes)) d.1).0 in
       subst (λ b. IsTied name b rows) (sym d.2) (sweep_ties n rows line begun_)
 

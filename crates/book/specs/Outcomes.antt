@@ -10,10 +10,10 @@ use Rattle.chronicle.specs.History.{sessions, accepted, shut}
 use Rattle.deliveries.specs.declared.item.Item.{Item}
 use Rattle.outbox.specs.declared.queue.PutFault.{PutFault}
 use Rattle.register.specs.Shown.{Stubbed, new_stub}
-use Rattle.ledger.specs.declared.out.Done.{Done}
-use Rattle.ledger.specs.declared.out.Hung.{Hung as Told}
-use Rattle.ledger.specs.declared.out.Left.{Left}
-use Rattle.ledger.specs.declared.out.Rolled.{Rolled}
+use Rattle.ledger.specs.declared.outcomes.Done.{Done}
+use Rattle.ledger.specs.declared.outcomes.Hung.{Hung as Told}
+use Rattle.ledger.specs.declared.outcomes.Reaped.{Reaped}
+use Rattle.ledger.specs.declared.outcomes.Rolled.{Rolled}
 use Rattle.ledger.specs.declared.refusals.OpenRefusal.{OpenRefusal}
 use Rattle.ledger.specs.declared.refusals.LineRefusal.{LineRefusal}
 use Rattle.ledger.specs.declared.refusals.HangRefusal.{HangRefusal}
@@ -22,19 +22,20 @@ use Rattle.ledger.specs.declared.refusals.TickRefusal.{TickRefusal}
 use Rattle.ledger.specs.declared.refusals.RollRefusal.{RollRefusal}
 use Rattle.ledger.specs.declared.refusals.ReapRefusal.{ReapRefusal}
 use Rattle.ledger.specs.Ledger as ledger
-use Rattle.ledger.specs.Ledger.{Shown, Out, IsOut, IsDone, opened, begun, rolled, reaped, newest_missed, to_sweep}
-use Rattle.ledger.specs.Ledger.{to_ping, MayOpen, MayBegin, MayHang, MaySweep, MayTick, IsSomebodyQuiet, HasRoom}
+use Rattle.ledger.specs.Ledger.{Shown, Out, IsOut, IsDone, after_open, after_begin, after_roll, after_reap}
+use Rattle.ledger.specs.Ledger.{newest_missed, to_sweep}
+use Rattle.ledger.specs.Ledger.{to_ping, MayOpen, MayBegin, MayHang, MaySweep, MayTick, IsSomebodyIdle, HasRoom}
 use Rattle.ledger.specs.Ledger.{IsOpenRefusal, IsLineRefusal, IsHangRefusal, IsSweepRefusal, IsTickRefusal}
 use Rattle.ledger.specs.Ledger.{IsRollRefusal}
-use Rattle.book.specs.Turn.{Turn, new_turn, next_turn}
+use Rattle.book.specs.Turn.{BatonView, new_turn, next_turn}
 use Rattle.book.specs.Reaping.{turn_of, MayReap, IsReapRefusal, IsAllOwed, AreAllAccepted}
 
 -- ---- a session comes and goes
 
 -- a session was opened, and has its baton and its stub; a refusal gives the outbox back
 pub record IsOpenOutcome {O N : Type 0} (name : O → N) (m k : Shown O) (host : List ℕ) (moment : ℤ) (outbox : O)
-    (came : Result (ℕ × Turn × Stubbed N) (OpenRefusal × O)) : Type 0 where
-  pub ok : OnOk came (k ≡ opened m host moment outbox)
+    (came : Result (ℕ × BatonView × Stubbed N) (OpenRefusal × O)) : Type 0 where
+  pub ok : OnOk came (k ≡ after_open m host moment outbox)
   pub may : OnOk came (MayOpen m moment)
   pub session : IfOk came (λ r. r.0 ≡ sessions m.history + 1)
   pub baton : IfOk came (λ r. r.1 ≡ new_turn r.0 k.history)
@@ -44,9 +45,9 @@ pub record IsOpenOutcome {O N : Type 0} (name : O → N) (m k : Shown O) (host :
 
 -- a session was given up, with its baton, its stub and what takes from its outbox; a refusal gives the three back
 pub record IsReapOutcome {O N W : Type 0} (sent : O → List Item) (taken : O → W → List Item) (m k : Shown O)
-    (b : Turn) (stub : Stubbed N) (taker : W) (answer : Result Left (ReapRefusal × Turn × Stubbed N × W))
+    (b : BatonView) (stub : Stubbed N) (taker : W) (answer : Result Reaped (ReapRefusal × BatonView × Stubbed N × W))
     : Type 0 where
-  pub ok : OnOk answer (k ≡ reaped m b.session)
+  pub ok : OnOk answer (k ≡ after_reap m b.session)
   pub session : IfOk answer (λ l. l.session ≡ b.session)
   pub left : IfOk answer (λ l. IsAllOwed sent taken m b.session taker l.count)
   pub pieces : OnOk answer (AreAllAccepted m b.session b.pieces)
@@ -60,7 +61,7 @@ pub record IsReapOutcome {O N W : Type 0} (sent : O → List Item) (taken : O �
 -- the next line of a session
 pub record IsLineBegun {O : Type 0} (m k : Shown O) (b : ledger.Turn) (piece : Piece) (moment : ℤ)
     (plan : Result Out LineRefusal) : Type 0 where
-  pub ok : OnOk plan (k ≡ begun m (Said b.session b.next piece) moment)
+  pub ok : OnOk plan (k ≡ after_begin m (Said b.session b.next piece) moment)
   pub out : IfOk plan (λ p. IsOut k p)
   pub line : IfOk plan (λ p. (p.session ≡ b.session) × (p.next ≡ Some (b.next + 1)))
   pub may : OnOk plan (MayBegin m b moment)
@@ -71,18 +72,18 @@ pub record IsLineBegun {O : Type 0} (m k : Shown O) (b : ledger.Turn) (piece : P
 pub record IsSweepBegun {O : Type 0} (m k : Shown O) (moment : ℤ) (plan : Result (Option Out) SweepRefusal)
     : Type 0 where
   pub some : IfOk plan (λ o. IfSome o (λ p. (to_sweep m.history ≡ Some p.session)
-      × (k ≡ begun m (Gone p.session) moment) × IsOut k p × (p.next ≡ None)))
+      × (k ≡ after_begin m (Gone p.session) moment) × IsOut k p × (p.next ≡ None)))
   pub none : IfOk plan (λ o. o ≡ None → (to_sweep m.history ≡ None) × (k ≡ m))
   pub may : OnOk plan (MaySweep m moment)
   pub refusal : IfErr plan (λ e. IsSweepRefusal m moment e)
   pub err : OnErr plan (k ≡ m)
 
--- whoever is quiet for long enough is pinged; None where nobody is
+-- whoever is idle for long enough is pinged; None where nobody is
 pub record IsTickBegun {O : Type 0} (m k : Shown O) (moment : ℤ) (plan : Result (Option Out) TickRefusal)
     : Type 0 where
-  pub some : IfOk plan (λ o. IfSome o (λ p. (k ≡ begun m Ticked moment) × IsOut k p × (p.session ≡ 0)
+  pub some : IfOk plan (λ o. IfSome o (λ p. (k ≡ after_begin m Ticked moment) × IsOut k p × (p.session ≡ 0)
       × (p.next ≡ None)))
-  pub quiet : IfOk plan (λ o. IfSome o (λ p. IsSomebodyQuiet m moment × HasRoom m))
+  pub idle : IfOk plan (λ o. IfSome o (λ p. IsSomebodyIdle m moment × HasRoom m))
   pub none : IfOk plan (λ o. o ≡ None → (to_ping m.history moment ≡ []) × (k ≡ m))
   pub may : OnOk plan (MayTick m moment)
   pub refusal : IfErr plan (λ e. IsTickRefusal m moment e)
@@ -92,7 +93,7 @@ pub record IsTickBegun {O : Type 0} (m k : Shown O) (moment : ℤ) (plan : Resul
 
 -- the next line of a baton's session was accepted, all that it owes was put or missed, and it is done
 pub record IsLineOutcome {O : Type 0} (accepts : O → Item → O → Type 0) (refuses : O → PutFault → Type 0)
-    (m k : Shown O) (b c : Turn) (piece : Piece) (moment : ℤ) (done : Result Done LineRefusal) : Type 0 where
+    (m k : Shown O) (b c : BatonView) (piece : Piece) (moment : ℤ) (done : Result Done LineRefusal) : Type 0 where
   pub ok : OnOk done (IsDone accepts refuses m (Said b.session b.next piece) moment k)
   pub baton : OnOk done (c ≡ next_turn b piece k.history)
   pub accepted : OnOk done (c.pieces ≡ accepted k.history b.session)
@@ -124,12 +125,12 @@ pub record IsSweepOutcome {O : Type 0} (accepts : O → Item → O → Type 0) (
   pub refusal : IfErr swept (λ e. IsSweepRefusal m moment e)
   pub err : OnErr swept (k ≡ m)
 
--- whoever is quiet was pinged, or nobody is
+-- whoever is idle was pinged, or nobody is
 pub record IsTickOutcome {O : Type 0} (accepts : O → Item → O → Type 0) (refuses : O → PutFault → Type 0)
     (m k : Shown O) (moment : ℤ) (ticked : Result (Option Done) TickRefusal) : Type 0 where
   pub some : IfOk ticked (λ o. IfSome o (λ d. IsDone accepts refuses m Ticked moment k
       × (d.number ≡ length m.history + 1) × (d.missed ≡ newest_missed k.history) × (d.shut ≡ false)))
-  pub quiet : IfOk ticked (λ o. IfSome o (λ d. IsSomebodyQuiet m moment × HasRoom m))
+  pub idle : IfOk ticked (λ o. IfSome o (λ d. IsSomebodyIdle m moment × HasRoom m))
   pub none : IfOk ticked (λ o. o ≡ None → (to_ping m.history moment ≡ []) × (k ≡ m))
   pub may : OnOk ticked (MayTick m moment)
   pub refusal : IfErr ticked (λ e. IsTickRefusal m moment e)
@@ -138,7 +139,7 @@ pub record IsTickOutcome {O : Type 0} (accepts : O → Item → O → Type 0) (r
 -- ---- all records are dropped
 
 pub record IsRollOutcome {O : Type 0} (m k : Shown O) (result : Result Rolled RollRefusal) : Type 0 where
-  pub ok : OnOk result (k ≡ rolled m)
+  pub ok : OnOk result (k ≡ after_roll m)
   pub dropped : IfOk result (λ r. r.dropped + m.limit.dropped ≡ length m.history)
   pub next : IfOk result (λ r. r.next ≡ length m.history + 1)
   pub idle : OnOk result (m.busy ≡ false)

@@ -12,7 +12,7 @@ use Rattle.ledger.specs.declared.refusals.ReapRefusal.{ReapRefusal}
 use Rattle.ledger.specs.declared.refusals.ReapRefusal.TheVariants as reaping
 
 -- whose line is next and which, as a book is told of it
-abbrev pub turn_of : batons.Turn → Turn
+abbrev pub turn_of : batons.BatonView → Turn
 turn_of b = record { session = b.session; next = b.next }
 
 -- the pieces that the newest record accepts of a session

@@ -7,10 +7,10 @@ ghost use Rattle.std.specs.Prelude.{◌≡◌};
 ghost use Rattle.book.specs.Turn.{IsInTurn};
 
 use chronicle::SessionId;
-use ghosts::Snapshot;
 use ledger::Ledger;
 use outbox::Outbox;
 use register::{Mark, Naming};
+use snapshots::Snapshot;
 use std::marker::Model;
 
 /// Whose line is next: a session has one baton, made by `Book::open` alone. A clause sees which of its lines that
@@ -24,9 +24,9 @@ pub struct Baton<L: Naming, O: Outbox> {
 
 impl<L: Naming, O: Outbox> Model for Baton<L, O> {
     ghost use Rattle.std.specs.Prelude.{◌≡◌};
-    ghost use Rattle.book.specs.Turn.{Turn, IsInTurn};
+    ghost use Rattle.book.specs.Turn.{BatonView, IsInTurn};
 
-    ghost Value = { Turn };
+    ghost Value = { BatonView };
 
     ghost view = { λ b. record {
       session = b.turn.session;

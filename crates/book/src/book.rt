@@ -10,17 +10,16 @@ ghost use Rattle.chronicle.specs.History.{accepted, shut};
 ghost use Rattle.ledger.specs.Settings.{IsWellSet};
 ghost use Rattle.ledger.specs.Ledger.{outbox_at};
 ghost use Rattle.book.specs.Reaping.{turn_of, newest_said, MayReap, IsReapRefusal, IsAllOwed, AreAllAccepted};
-ghost use Rattle.book.specs.Telling.{TellsOf};
+ghost use Rattle.book.specs.Flushes.{ListsChanged};
 ghost use Rattle.book.specs.Tied.{IsTied};
 
 use crate::baton::Baton;
-use crate::lasting::Lasting;
-use crate::left::Left;
-use crate::namesake::Namesake;
-use crate::told::Told;
+use crate::flush_list::FlushList;
+use crate::ghost_outbox::GhostOutbox;
+use crate::leftover::Left;
+use crate::stable_name::StableName;
 use chronicle::{Moment, SessionId, Why};
 use deliveries::Item;
-use ghosts::Snapshot;
 use ledger::{
     BookFault, Done, HangRefusal, Hung, Ledger, LineRefusal, OpenRefusal, Plan, ReadLine,
     ReapRefusal, RollRefusal, Rolled, Step, SweepRefusal, TakeRefusal, TickRefusal,
@@ -29,6 +28,7 @@ use line_grammar::{Octets, Piece};
 use outbox::{Outbox, Ring};
 use register::{Naming, Register, Stub};
 use registration::Settings;
+use snapshots::Snapshot;
 use std::alloc::Global;
 use std::hash::RandomState;
 use std::marker::{Model, PhantomData};
@@ -53,12 +53,12 @@ impl<L: Naming, O: Outbox> Model for Book<L, O> {
     ghost invariant = { λ a. (a.register.table ≡ L.table) × IsTied O.name a.ledger a.register.rows };
 }
 
-impl<L: Naming, O: Lasting> Book<L, O> {
+impl<L: Naming, O: StableName> Book<L, O> {
     ghost use Rattle.book.specs.Outcomes.{IsLineOutcome, IsOpenOutcome, IsReapOutcome};
     ghost use Rattle.book.specs.Outcomes.{IsHangOutcome, IsLineBegun, IsRollOutcome, IsSweepBegun, IsSweepOutcome};
     ghost use Rattle.book.specs.Outcomes.{IsTickBegun, IsTickOutcome};
-    ghost use Rattle.ledger.specs.Ledger.{empty_ledger, finished, late, newest_missed, reaped, IsOut, IsPutAll};
-    ghost use Rattle.ledger.specs.Ledger.{IsPutNext, MayBegin, MayTick, HasRoom, IsSomebodyQuiet, to_ping};
+    ghost use Rattle.ledger.specs.Ledger.{empty_ledger, after_end, late, newest_missed, after_reap, IsOut, IsPutAll};
+    ghost use Rattle.ledger.specs.Ledger.{IsPutNext, MayBegin, MayTick, HasRoom, IsSomebodyIdle, to_ping};
     ghost use Rattle.ledger.specs.Ledger.{IsLineRefusal, IsTickRefusal, IsOpenRefusal, MayOpen};
 
     /// An empty book for at most `limit` records, whose tokens a register has that is named by `L` and has no
@@ -148,9 +148,9 @@ impl<L: Naming, O: Lasting> Book<L, O> {
         if let Err(refusal) = self.may_open(moment) {
             return Err((refusal, outbox));
         }
-        let namesake = Namesake::of(&outbox);
+        let namesake = GhostOutbox::of(&outbox);
         let (session, turn) = self.ledger.open(host, moment, outbox)?;
-        let (mark, stub) = self.register.admit::<L, Namesake<O>>(session, &namesake);
+        let (mark, stub) = self.register.admit::<L, GhostOutbox<O>>(session, &namesake);
         let front = Snapshot::of(&self.ledger);
         Ok((session, Baton { turn, mark, front }, stub))
     }
@@ -195,7 +195,7 @@ impl<L: Naming, O: Lasting> Book<L, O> {
     }
 
     /// Puts or misses the first delivery of the plan that is out, and notes whose it is where it was put.
-    fn put_noted(&mut self, plan: &mut Plan, told: &mut Told) -> Option<Step>
+    fn put_noted(&mut self, plan: &mut Plan, flushes: &mut FlushList) -> Option<Step>
         requires out { IsOut self.old plan.old }
         ensures put { IsPutNext O.accepts O.refuses self.old self.old.plan result self.new }
         ensures none { result ≡ None → self.new.plan ≡ [] }
@@ -203,12 +203,12 @@ impl<L: Naming, O: Lasting> Book<L, O> {
         ensures number { plan.new.number ≡ plan.old.number }
         ensures session { plan.new.session ≡ plan.old.session }
         ensures next { plan.new.next ≡ plan.old.next }
-        ensures told { TellsOf told.old told.new self.old.outboxes self.new.outboxes }
+        ensures flushes { ListsChanged flushes.old flushes.new self.old.outboxes self.new.outboxes }
     {
         self.ledger().sound();
         match self.put_next(plan)? {
             Step::Put(session) => {
-                told.note(session);
+                flushes.note(session);
                 Some(Step::Put(session))
             }
             Step::Missed(session) => Some(Step::Missed(session)),
@@ -216,7 +216,7 @@ impl<L: Naming, O: Lasting> Book<L, O> {
     }
 
     /// Puts or misses all that is left of a plan, and notes who got something.
-    pub(crate) fn put_rest(&mut self, plan: &mut Plan, told: &mut Told)
+    pub(crate) fn put_rest(&mut self, plan: &mut Plan, flushes: &mut FlushList)
         requires out { IsOut self.old plan.old }
         ensures put { IsPutAll O.accepts O.refuses self.old self.old.plan self.new }
         ensures out { IsOut self.new plan.new }
@@ -224,9 +224,9 @@ impl<L: Naming, O: Lasting> Book<L, O> {
         ensures number { plan.new.number ≡ plan.old.number }
         ensures session { plan.new.session ≡ plan.old.session }
         ensures next { plan.new.next ≡ plan.old.next }
-        ensures told { TellsOf told.old told.new self.old.outboxes self.new.outboxes }
+        ensures flushes { ListsChanged flushes.old flushes.new self.old.outboxes self.new.outboxes }
     {
-        while let Some(_) = self.put_noted(plan, told) {}
+        while let Some(_) = self.put_noted(plan, flushes) {}
     }
 
     /// Gives back the plan of a line, with nothing left in it: now the line is done, and the turn goes on to the
@@ -236,7 +236,7 @@ impl<L: Naming, O: Lasting> Book<L, O> {
         requires none { self.old.plan ≡ [] }
         requires line { (plan.session ≡ baton.old.session)
             × (plan.next ≡ Some (baton.old.next + 1)) }
-        ensures book { self.new ≡ finished self.old }
+        ensures book { self.new ≡ after_end self.old }
         ensures session { baton.new.session ≡ baton.old.session }
         ensures next { baton.new.next ≡ baton.old.next + 1 }
         ensures grown { baton.new.pieces
@@ -263,16 +263,17 @@ impl<L: Naming, O: Lasting> Book<L, O> {
         baton: &mut Baton<L, O>,
         piece: &Piece,
         moment: Moment,
-        told: &mut Told,
+        flushes: &mut FlushList,
     ) -> Result<Done, LineRefusal>
         ensures outcome { IsLineOutcome O.accepts O.refuses self.old self.new baton.old baton.new
             piece.now moment result }
-        ensures told { OnOk result (TellsOf told.old told.new self.old.outboxes self.new.outboxes) }
-        ensures untold { OnErr result (told.new ≡ told.old) }
+        ensures flushes { OnOk result
+            (ListsChanged flushes.old flushes.new self.old.outboxes self.new.outboxes) }
+        ensures unlisted { OnErr result (flushes.new ≡ flushes.old) }
     {
         self.may_line(baton, moment)?;
         let mut line = ReadLine::read(self.ledger.allocator(), piece)?;
-        self.line_read(baton, &mut line, moment, told)
+        self.line_read(baton, &mut line, moment, flushes)
     }
 
     /// Ends a session: one record is appended, and its last item is put, or missed where its outbox doesn't take it.
@@ -290,21 +291,22 @@ impl<L: Naming, O: Lasting> Book<L, O> {
     }
 
     /// Ends a session, as `hang` does, and notes it where it got its last item. A refusal changes nothing.
-    pub fn hang_told(
+    pub fn hang_with_flushes(
         &mut self,
         session: SessionId,
         why: Why,
         moment: Moment,
-        told: &mut Told,
+        flushes: &mut FlushList,
     ) -> Result<Hung, HangRefusal>
         ensures outcome { IsHangOutcome O.accepts O.refuses self.old self.new
             session why moment result }
-        ensures told { OnOk result (TellsOf told.old told.new self.old.outboxes self.new.outboxes) }
-        ensures untold { OnErr result (told.new ≡ told.old) }
+        ensures flushes { OnOk result
+            (ListsChanged flushes.old flushes.new self.old.outboxes self.new.outboxes) }
+        ensures unlisted { OnErr result (flushes.new ≡ flushes.old) }
     {
         let hung = self.hang(session, why, moment)?;
         if !hung.missed {
-            told.note_in_room(session);
+            flushes.note_in_room(session);
         }
         Ok(hung)
     }
@@ -323,7 +325,7 @@ impl<L: Naming, O: Lasting> Book<L, O> {
         requires out { IsOut self.old sweep }
         requires none { self.old.plan ≡ [] }
         requires sweep { (sweep.next ≡ None) × (0 < sweep.session) }
-        ensures book { self.new ≡ finished self.old }
+        ensures book { self.new ≡ after_end self.old }
         ensures number { result.number ≡ length self.old.history }
         ensures missed { result.missed ≡ newest_missed self.old.history }
         ensures shut { result.shut ≡ shut self.old.history sweep.session }
@@ -334,20 +336,25 @@ impl<L: Naming, O: Lasting> Book<L, O> {
     /// Sweeps up to one session: begins, puts or misses all that it owes, and finishes. Whoever got something is
     /// told of it. A refusal changes nothing.
     #[tactic(auto, using(ledger::proofs::Sweeps::swept_is))]
-    pub fn sweep(&mut self, moment: Moment, told: &mut Told) -> Result<Option<Done>, SweepRefusal>
+    pub fn sweep(
+        &mut self,
+        moment: Moment,
+        flushes: &mut FlushList,
+    ) -> Result<Option<Done>, SweepRefusal>
         ensures outcome { IsSweepOutcome O.accepts O.refuses self.old self.new moment result }
-        ensures told { OnOk result (TellsOf told.old told.new self.old.outboxes self.new.outboxes) }
-        ensures untold { OnErr result (told.new ≡ told.old) }
+        ensures flushes { OnOk result
+            (ListsChanged flushes.old flushes.new self.old.outboxes self.new.outboxes) }
+        ensures unlisted { OnErr result (flushes.new ≡ flushes.old) }
     {
         let Some(mut plan) = self.begin_sweep(moment)? else {
             return Ok(None);
         };
-        self.put_rest(&mut plan, told);
+        self.put_rest(&mut plan, flushes);
         Ok(Some(self.finish_sweep(plan)))
     }
 
     /// Begins a tick: its record is appended, and a plan is handed out of the PING that it owes each session that is
-    /// quiet for long enough and wasn't pinged since it was heard of. It answers `None` where there is no such
+    /// idle for long enough and wasn't pinged since it was heard of. It answers `None` where there is no such
     /// session. All memory is taken here; a refusal changes nothing.
     pub fn begin_tick(&mut self, moment: Moment) -> Result<Option<Plan>, TickRefusal>
         ensures begun { IsTickBegun self.old self.new moment result }
@@ -359,7 +366,7 @@ impl<L: Naming, O: Lasting> Book<L, O> {
     /// memory apart. It takes no memory.
     pub fn may_tick(&self, moment: Moment) -> Result<bool, TickRefusal>
         ensures some { IfOk result
-            (λ b. b ≡ true → IsSomebodyQuiet self.now moment × HasRoom self.now) }
+            (λ b. b ≡ true → IsSomebodyIdle self.now moment × HasRoom self.now) }
         ensures none { IfOk result (λ b. b ≡ false → to_ping self.now.history moment ≡ []) }
         ensures may { OnOk result (MayTick self.now moment) }
         ensures refusal { IfErr result (λ e. IsTickRefusal self.now moment e) }
@@ -373,7 +380,7 @@ impl<L: Naming, O: Lasting> Book<L, O> {
         requires out { IsOut self.old tick }
         requires none { self.old.plan ≡ [] }
         requires tick { tick.session ≡ 0 }
-        ensures book { self.new ≡ finished self.old }
+        ensures book { self.new ≡ after_end self.old }
         ensures number { result.number ≡ length self.old.history }
         ensures missed { result.missed ≡ newest_missed self.old.history }
         ensures shut { result.shut ≡ false }
@@ -382,21 +389,26 @@ impl<L: Naming, O: Lasting> Book<L, O> {
         self.ledger.finish(tick)
     }
 
-    /// Pings whoever is quiet for long enough: begins, puts or misses all that the tick owes, and finishes. Whoever
+    /// Pings whoever is idle for long enough: begins, puts or misses all that the tick owes, and finishes. Whoever
     /// got something is told of it. It answers `None` where nobody is to be pinged. A refusal changes nothing.
-    pub fn tick(&mut self, moment: Moment, told: &mut Told) -> Result<Option<Done>, TickRefusal>
+    pub fn tick(
+        &mut self,
+        moment: Moment,
+        flushes: &mut FlushList,
+    ) -> Result<Option<Done>, TickRefusal>
         ensures outcome { IsTickOutcome O.accepts O.refuses self.old self.new moment result }
-        ensures told { OnOk result (TellsOf told.old told.new self.old.outboxes self.new.outboxes) }
-        ensures untold { OnErr result (told.new ≡ told.old) }
+        ensures flushes { OnOk result
+            (ListsChanged flushes.old flushes.new self.old.outboxes self.new.outboxes) }
+        ensures unlisted { OnErr result (flushes.new ≡ flushes.old) }
     {
         let Some(mut plan) = self.begin_tick(moment)? else {
             return Ok(None);
         };
-        self.put_rest(&mut plan, told);
+        self.put_rest(&mut plan, flushes);
         Ok(Some(self.finish_tick(plan)))
     }
 
-    /// The session of the lowest number that isn't shut and is quiet for too long at a moment. It takes no memory.
+    /// The session of the lowest number that isn't shut and is idle for too long at a moment. It takes no memory.
     pub fn late(&self, moment: Moment) -> Option<SessionId>
         ensures { result ≡ late self.now.history moment }
     {
@@ -451,7 +463,7 @@ impl<L: Naming, O: Lasting> Book<L, O> {
         O::Taker: Drop,
         requires own { stub.outbox ≡ Some (O.taker_of taker) }
         requires may { MayReap self.old baton.session stub.session }
-        ensures book { self.new ≡ reaped self.old baton.session }
+        ensures book { self.new ≡ after_reap self.old baton.session }
         ensures session { result.session ≡ baton.session }
         ensures left { IsAllOwed O.sent O.taken self.old baton.session taker result.count }
         ensures pieces { AreAllAccepted self.old baton.session baton.pieces }
@@ -471,14 +483,14 @@ impl<L: Naming, O: Lasting> Book<L, O> {
 }
 
 impl<L: Naming> Book<L, Ring> {
-    ghost use Rattle.ledger.specs.Ledger.{taken, IsKnown};
-    ghost use Rattle.ledger.specs.Told.{IsTakeRefusal};
+    ghost use Rattle.ledger.specs.Ledger.{after_take, IsKnown};
+    ghost use Rattle.ledger.specs.RingAnswers.{IsTakeRefusal};
 
     /// Takes the item that waits longest for a session. It takes no memory.
     pub fn take(&mut self, session: SessionId) -> Result<Item, TakeRefusal>
         ensures ok { IfOk result
             (λ x. slice_get (outbox_at self.old.outboxes session).queue 0 ≡ Some x) }
-        ensures taken { OnOk result (self.new ≡ taken self.old session) }
+        ensures taken { OnOk result (self.new ≡ after_take self.old session) }
         ensures known { OnOk result (IsKnown self.old session) }
         ensures refusal { IfErr result (λ e. IsTakeRefusal self.old session e) }
         ensures err { OnErr result (self.new ≡ self.old) }

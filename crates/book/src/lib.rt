@@ -1,24 +1,28 @@
 //! The book: sessions with tokens, which come together when a session is reaped, over the journal and the outboxes.
+//! What stands in a lock is a `Hall`: a book with no plan out.
 #![tactic(auto)]
 
 mod baton;
 mod book;
-mod lasting;
-mod left;
-mod lines;
-mod namesake;
-mod rings;
-mod told;
+mod flush_calls;
+mod flush_list;
+mod ghost_outbox;
+mod hall;
+mod leftover;
+mod read_lines;
+mod ring_book;
+mod stable_name;
 
 pub use baton::Baton;
 pub use book::Book;
-pub use lasting::Lasting;
+pub use flush_list::FlushList;
+pub use hall::Hall;
 pub use ledger::{
-    Base, BookFault, Done, HangRefusal, Hung, Ledger, LineRefusal, OpenRefusal, Outbox, Plan,
-    PutFault, ReadLine, ReapRefusal, Ring, RollRefusal, Rolled, Settings, Step, SweepRefusal,
-    TakeRefusal, TickRefusal,
+    Base, BookFault, Delivery, Done, HangRefusal, Hung, Ledger, LineRefusal, OpenRefusal, Outbox,
+    Plan, PutFault, ReadLine, ReapRefusal, Ring, RollRefusal, Rolled, Sessions, Settings, Step,
+    SweepRefusal, TakeRefusal, TickRefusal,
 };
-pub use left::Left;
+pub use leftover::Left;
 pub use outbox;
 pub use register::{Naming, Register, Stub};
-pub use told::Told;
+pub use stable_name::StableName;

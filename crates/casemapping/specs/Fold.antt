@@ -13,9 +13,9 @@ fold_of octet =
     else octet
 
 -- A name octet by octet.
-abbrev pub folded : List ℕ → List ℕ
-folded name = map fold_of name
+abbrev pub name_fold : List ℕ → List ℕ
+name_fold name = map fold_of name
 
 -- Whether two names differ in case at most.
 unfoldable pub is_same : List ℕ → List ℕ → Bool
-is_same a b = bytes_eq (folded a) (folded b)
+is_same a b = bytes_eq (name_fold a) (name_fold b)

@@ -1,7 +1,7 @@
 //! A name that compares without regard to case.
 ghost use Rattle.std.specs.Prelude.{◌≡◌, IfOk};
 ghost use Rattle.std.proofs.Common.{rules};
-ghost use Rattle.casemapping.specs.Fold.{folded};
+ghost use Rattle.casemapping.specs.Fold.{name_fold};
 
 use crate::fold;
 use smallvec::SmallVec;
@@ -22,18 +22,18 @@ pub struct Folded {
 
 impl Model for Folded {
     ghost use Rattle.std.specs.Prelude.{◌≡◌, ℕ, List};
-    ghost use Rattle.casemapping.specs.Fold.{folded};
+    ghost use Rattle.casemapping.specs.Fold.{name_fold};
 
     ghost Value = { List ℕ };
 
     ghost view = { λ a. a.octets.items };
 
-    ghost invariant = { λ a. folded a.octets.items ≡ a.octets.items };
+    ghost invariant = { λ a. name_fold a.octets.items ≡ a.octets.items };
 }
 
 /// Puts octets into lower case.
 fn fold_all(octets: &mut Vec<u8>)
-    ensures { octets.new.items ≡ folded octets.old.items }
+    ensures { octets.new.items ≡ name_fold octets.old.items }
 {
     for octet in octets.iter_mut() {
         *octet = fold(*octet);
@@ -43,7 +43,7 @@ fn fold_all(octets: &mut Vec<u8>)
 impl Folded {
     /// The lower case of a name.
     pub fn new(alloc: Global, name: &[u8]) -> Result<Folded, AllocError>
-        ensures { IfOk result (λ f. f ≡ folded name.now) }
+        ensures { IfOk result (λ f. f ≡ name_fold name.now) }
     {
         let mut octets = SmallVec::with_capacity(alloc, name.len())?;
         for octet in name {
@@ -54,7 +54,7 @@ impl Folded {
 
     /// The lower case of a name. It takes no memory: more than 64 octets stay where they are.
     pub fn from_vec(octets: Vec<u8>) -> Folded
-        ensures { result ≡ folded octets.items }
+        ensures { result ≡ name_fold octets.items }
     {
         let mut lower = octets;
         fold_all(&mut lower);
@@ -66,7 +66,7 @@ impl Folded {
     /// The octets of the lower case.
     pub fn as_slice(&self) -> &[u8]
         ensures octets { result.now ≡ self.now }
-        ensures lower_case { folded result.now ≡ result.now }
+        ensures lower_case { name_fold result.now ≡ result.now }
     {
         self.octets.as_slice()
     }

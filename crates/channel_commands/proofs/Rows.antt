@@ -4,20 +4,20 @@ use Rattle.std.proofs.Common.{◌++◌, filter, Option, Some, None, refl, sym, a
 use Rattle.numerics.specs.declared.numeric.Numeric.{Numeric}
 use Rattle.registration.specs.declared.settings.Settings.{Settings}
 use Rattle.channel_state.specs.declared.change.Change.TheVariants.{Joined}
-use Rattle.channel_state.specs.State.{State, among, changed, is_some_one, without}
+use Rattle.channel_state.specs.State.{State, among, with_change, is_some_one, without}
 use Rattle.channel_state.proofs.Once.{without-none}
 use Rattle.roster.specs.declared.deed.Deed.{Deed}
 use Rattle.roster.specs.LookBack.{account, away, has_member, real}
-use Rattle.drafts.specs.Seen.{Seen, seen}
-use Rattle.drafts.specs.Effects.{deeds_of}
-use Rattle.drafts.specs.Hearers.{shown}
-use Rattle.drafts.specs.Lines.{extended_join_line, join_line}
-use Rattle.drafts.specs.Replies.{tells_all}
-use Rattle.drafts.proofs.Quiet.{both-quiet, shown-quiet}
+use Rattle.transactions.specs.Seen.{Seen, seen}
+use Rattle.transactions.specs.Effects.{deeds_of}
+use Rattle.transactions.specs.Hearers.{shows_to}
+use Rattle.transactions.specs.Lines.{extended_join_line, join_line}
+use Rattle.transactions.specs.Replies.{tells_all}
+use Rattle.transactions.proofs.Quiet.{both-quiet, shown-quiet}
 use Rattle.query_commands.specs.Names.{with_members}
 use Rattle.query_commands.proofs.Members.{told_uninvited}
-use Rattle.channel_commands.specs.Joining.{absence_shown, entered, introduced, join_shown}
-use Rattle.channel_commands.specs.Joining.{takes_extended, takes_plain, topic_told, welcomed}
+use Rattle.channel_commands.specs.Joining.{absence_shown, arrives, arrival_shown, join_shown}
+use Rattle.channel_commands.specs.Joining.{takes_extended, takes_plain, topic_told, arrival_told}
 
 -- answers establish nothing
 pub no_deeds : (g : Settings) (fs : List Deed) (s : ℕ) (ns : List Numeric) → deeds_of (tells_all g fs s ns) ≡ []
@@ -30,21 +30,21 @@ absence_quiet : (fs : List Deed) (s : ℕ) (from : List ℕ) (k : Seen) (text : 
 absence_quiet fs s from k None = refl
 absence_quiet fs s from k (Some text) = shown-quiet _ _
 
-pub introduced_quiet : (fs : List Deed) (s : ℕ) (from : List ℕ) (k : Seen) → deeds_of (introduced fs s from k) ≡ []
-unfolding introduced
+pub introduced_quiet : (fs : List Deed) (s : ℕ) (from : List ℕ) (k : Seen) → deeds_of (arrival_shown fs s from k) ≡ []
+unfolding arrival_shown
 introduced_quiet fs s from k =
-    let plain = shown (filter (takes_plain fs) k.state.members) (join_line from k.name) in
-    let extended = shown (filter (takes_extended fs) k.state.members)
+    let plain = shows_to (filter (takes_plain fs) k.state.members) (join_line from k.name) in
+    let extended = shows_to (filter (takes_extended fs) k.state.members)
     (extended_join_line from k.name (account fs s) (real fs s)) in
     both-quiet (join_shown fs s from k) (absence_shown fs s from k (away fs s))
     (both-quiet plain extended (shown-quiet _ _) (shown-quiet _ _)) (absence_quiet fs s from k (away fs s))
 
 pub entered_quiet : (g : Settings) (fs0 fs : List Deed) (s : ℕ) (from : List ℕ) (k : Seen)
-    → deeds_of (entered g fs0 fs s from k) ≡ []
-unfolding entered
+    → deeds_of (arrives g fs0 fs s from k) ≡ []
+unfolding arrives
 entered_quiet g fs0 fs s from k =
-    let ns = welcomed g fs0 s k in
-    both-quiet (introduced fs0 s from k) (tells_all g fs s ns) (introduced_quiet fs0 s from k) (no_deeds g fs s ns)
+    let ns = arrival_told g fs0 s k in
+    both-quiet (arrival_shown fs0 s from k) (tells_all g fs s ns) (introduced_quiet fs0 s from k) (no_deeds g fs s ns)
 
 some_last : (t : ℕ) (ts : List ℕ) → is_some_one (ts ++ t ∷ []) ≡ true
 some_last t [] = refl
@@ -70,13 +70,13 @@ last_on_it t (u ∷ us) = either_true (u == t) (among t (us ++ t ∷ [])) (last_
 -- a channel that a session joined is the one before with one member more: of the rest its own invitation alone goes,
 -- of which nobody is told
 pub entered_joined : (g : Settings) (fs0 fs : List Deed) (s : ℕ) (from name : List ℕ) (k : State)
-    → among s k.members ≡ false → entered g fs0 fs s from (with_members name k (k.members ++ s ∷ []))
-    ≡ entered g fs0 fs s from (record { name = name; state = changed (Joined s) k })
-unfolding entered introduced
+    → among s k.members ≡ false → arrives g fs0 fs s from (with_members name k (k.members ++ s ∷ []))
+    ≡ arrives g fs0 fs s from (record { name = name; state = with_change (Joined s) k })
+unfolding arrives arrival_shown
 entered_joined g fs0 fs s from name k e =
     let members = without s k.members ++ s ∷ [] in let j = with_members name k members in
-    ap (λ ts. entered g fs0 fs s from (with_members name k (ts ++ s ∷ []))) (sym (without-none s k.members e))
-    ∙ ap (λ ns. introduced fs0 s from j ++ tells_all g fs s (topic_told j k.topic ++ ns))
+    ap (λ ts. arrives g fs0 fs s from (with_members name k (ts ++ s ∷ []))) (sym (without-none s k.members e))
+    ∙ ap (λ ns. arrival_shown fs0 s from j ++ tells_all g fs s (topic_told j k.topic ++ ns))
     (told_uninvited g fs0 s name k members)
 
 none_is_false : {A : Type 0} (b : Bool) (x : A) → cond b (Some x) None ≡ None → b ≡ false

@@ -9,7 +9,7 @@ use Rattle.command_params.specs.Lists.{names_of, targets_of}
 use Rattle.command_params.specs.Params.{first_or_empty, first_or_none, needs_more}
 use Rattle.registration.specs.declared.settings.Settings.{Settings}
 use Rattle.roster.specs.declared.deed.Deed.{Deed}
-use Rattle.drafts.specs.declared.effect.Effect.{Effect}
+use Rattle.transactions.specs.declared.effect.Effect.{Effect}
 use Rattle.channel_commands.specs.Joining.{joins}
 use Rattle.channel_commands.specs.Leaving.{parts, kicks}
 use Rattle.channel_commands.specs.Inviting.{invites}

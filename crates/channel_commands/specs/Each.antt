@@ -2,8 +2,8 @@
 use Rattle.std.specs.Prelude.{ℕ, ◌+◌, List, [], ◌∷◌, ◌++◌, length}
 use Rattle.roster.specs.declared.deed.Deed.{Deed}
 use Rattle.roster.specs.LookBack.{after}
-use Rattle.drafts.specs.declared.effect.Effect.{Effect}
-use Rattle.drafts.specs.Effects.{deeds_of}
+use Rattle.transactions.specs.declared.effect.Effect.{Effect}
+use Rattle.transactions.specs.Effects.{deeds_of}
 
 -- each finds the facts that those before it leave
 abbrev pub each : {A : Type 0} → (List Deed → A → List Effect) → List Deed → List A → List Effect

@@ -5,7 +5,7 @@ use Rattle.std.specs.Prelude.{◌++◌, length, Option, Some, None, if◌then◌
 use Rattle.std.specs.Str.{bytes_eq}
 use Rattle.casemapping.specs.Names.{channel_shape}
 use Rattle.channel_state.specs.declared.change.Change.TheVariants.{Joined}
-use Rattle.channel_state.specs.State.{State, among, is_banned, made_by, changed, without}
+use Rattle.channel_state.specs.State.{State, among, is_banned, made_by, with_change, without}
 use Rattle.command_params.specs.declared.join_targets.JoinTarget.{JoinTarget}
 use Rattle.numerics.specs.declared.numeric.Numeric.{Numeric}
 use Rattle.numerics.specs.declared.numeric.Numeric.TheVariants.{NoSuchChannel, TooManyChannels, Topic}
@@ -14,16 +14,16 @@ use Rattle.registration.specs.declared.settings.Settings.{Settings}
 use Rattle.roster.specs.declared.deed.Deed.{Deed}
 use Rattle.roster.specs.declared.deed.Deed.TheVariants.{ChannelMade, Changed}
 use Rattle.roster.specs.LookBack.{account, away, channel_count, real}
-use Rattle.drafts.specs.declared.effect.Effect.{Effect}
-use Rattle.drafts.specs.declared.effect.Effect.TheVariants.{Establish}
-use Rattle.drafts.specs.Seen.{Seen}
-use Rattle.drafts.specs.Hearers.{shown, takes}
-use Rattle.drafts.specs.Lines.{prefix, join_line, extended_join_line, away_line}
-use Rattle.drafts.specs.declared.denials.Denial.{Denial}
-use Rattle.drafts.specs.declared.denials.Denial.TheVariants.{BadChannelKey, BannedFromChan}
-use Rattle.drafts.specs.declared.denials.Denial.TheVariants.{InviteOnlyChan, ChannelIsFull}
-use Rattle.drafts.specs.Denials.{denied}
-use Rattle.drafts.specs.Replies.{tells, tells_all}
+use Rattle.transactions.specs.declared.effect.Effect.{Effect}
+use Rattle.transactions.specs.declared.effect.Effect.TheVariants.{Establish}
+use Rattle.transactions.specs.Seen.{Seen}
+use Rattle.transactions.specs.Hearers.{shows_to, takes}
+use Rattle.transactions.specs.Lines.{prefix, join_line, extended_join_line, away_line}
+use Rattle.transactions.specs.declared.denials.Denial.{Denial}
+use Rattle.transactions.specs.declared.denials.Denial.TheVariants.{BadChannelKey, BannedFromChan}
+use Rattle.transactions.specs.declared.denials.Denial.TheVariants.{InviteOnlyChan, ChannelIsFull}
+use Rattle.transactions.specs.Denials.{numeric_for}
+use Rattle.transactions.specs.Replies.{tells, tells_all}
 use Rattle.query_commands.specs.Names.{names_told}
 use Rattle.channel_commands.specs.Found.{channel_of}
 use Rattle.channel_commands.specs.Each.{each_counted}
@@ -61,8 +61,8 @@ topic_told k None = []
 topic_told k (Some topic) = Topic k.name topic ∷ []
 
 -- what it is told: the topic, where there is one, and who is on the channel
-abbrev pub welcomed : Settings → List Deed → ℕ → Seen → List Numeric
-welcomed g fs0 s k = topic_told k k.state.topic ++ names_told g fs0 s k
+abbrev pub arrival_told : Settings → List Deed → ℕ → Seen → List Numeric
+arrival_told g fs0 s k = topic_told k k.state.topic ++ names_told g fs0 s k
 
 -- the two forms in which a join is shown
 abbrev pub takes_extended : List Deed → ℕ → Bool
@@ -74,38 +74,39 @@ takes_plain fs t = not (takes fs ExtendedJoin t)
 -- who takes extended-join is shown its account and real name, and all others that it joined
 abbrev pub join_shown : List Deed → ℕ → List ℕ → Seen → List Effect
 join_shown fs s from k =
-    shown (filter (takes_plain fs) k.state.members) (join_line from k.name)
-    ++ shown (filter (takes_extended fs) k.state.members) (extended_join_line from k.name (account fs s) (real fs s))
+    shows_to (filter (takes_plain fs) k.state.members) (join_line from k.name)
+    ++ shows_to (filter (takes_extended fs) k.state.members)
+    (extended_join_line from k.name (account fs s) (real fs s))
 
 -- where it is away, the others that take away-notify are shown so
 abbrev pub absence_shown : List Deed → ℕ → List ℕ → Seen → Option (List ℕ) → List Effect
 absence_shown fs s from k None = []
-absence_shown fs s from k (Some text) = shown (without s (filter (takes fs AwayNotify) k.state.members))
+absence_shown fs s from k (Some text) = shows_to (without s (filter (takes fs AwayNotify) k.state.members))
     (away_line from (Some text))
 
 -- what members are shown, by the facts before the line
-unfoldable pub introduced : List Deed → ℕ → List ℕ → Seen → List Effect
-introduced fs0 s from k = join_shown fs0 s from k ++ absence_shown fs0 s from k (away fs0 s)
+unfoldable pub arrival_shown : List Deed → ℕ → List ℕ → Seen → List Effect
+arrival_shown fs0 s from k = join_shown fs0 s from k ++ absence_shown fs0 s from k (away fs0 s)
 
 -- the members, and then it itself. Nicknames are those of the facts before the line, which JOIN doesn't change
-unfoldable pub entered : Settings → List Deed → List Deed → ℕ → List ℕ → Seen → List Effect
-entered g fs0 fs s from k = introduced fs0 s from k ++ tells_all g fs s (welcomed g fs0 s k)
+unfoldable pub arrives : Settings → List Deed → List Deed → ℕ → List ℕ → Seen → List Effect
+arrives g fs0 fs s from k = arrival_shown fs0 s from k ++ tells_all g fs s (arrival_told g fs0 s k)
 
 -- ---- JOIN of one channel, by a session that is on n channels
 
 -- it makes one that isn't there
 abbrev pub makes : Settings → List Deed → List Deed → ℕ → List ℕ → List ℕ → List Effect
-makes g fs0 fs s from c = Establish (ChannelMade s c) ∷ entered g fs0 (ChannelMade s c ∷ fs) s from
+makes g fs0 fs s from c = Establish (ChannelMade s c) ∷ arrives g fs0 (ChannelMade s c ∷ fs) s from
     (record { name = c; state = made_by s })
 
 abbrev pub enters : Settings → List Deed → List Deed → ℕ → List ℕ → Seen → List Effect
-enters g fs0 fs s from k = Establish (Changed k.name (Joined s)) ∷ entered g fs0
-    (Changed k.name (Joined s) ∷ fs) s from (record { name = k.name; state = changed (Joined s) k.state })
+enters g fs0 fs s from k = Establish (Changed k.name (Joined s)) ∷ arrives g fs0
+    (Changed k.name (Joined s) ∷ fs) s from (record { name = k.name; state = with_change (Joined s) k.state })
 
 -- unless something bars it
 abbrev pub enters_unless : Settings → List Deed → List Deed → ℕ → List ℕ → Seen → Option Denial → List Effect
 enters_unless g fs0 fs s from k None = enters g fs0 fs s from k
-enters_unless g fs0 fs s from k (Some bar) = tells g fs s (denied bar k.name) ∷ []
+enters_unless g fs0 fs s from k (Some bar) = tells g fs s (numeric_for bar k.name) ∷ []
 
 abbrev pub joins_seen : Settings → List Deed → List Deed → ℕ → List ℕ → ℕ → JoinTarget → Option Seen → List Effect
 joins_seen g fs0 fs s from n t None = if nat_le 20 n then tells g fs s (TooManyChannels t.channel) ∷ []

@@ -6,11 +6,11 @@ use Rattle.numerics.specs.declared.numeric.Numeric.TheVariants.{TooManyTargets, 
 use Rattle.registration.specs.declared.settings.Settings.{Settings}
 use Rattle.roster.specs.declared.deed.Deed.{Deed}
 use Rattle.roster.specs.LookBack.{nick}
-use Rattle.drafts.specs.declared.effect.Effect.{Effect}
-use Rattle.drafts.specs.Seen.{Seen}
-use Rattle.drafts.specs.Lines.{title, prefix}
-use Rattle.drafts.specs.Replies.{tells}
-use Rattle.departing.specs.Leaving.{leaves}
+use Rattle.transactions.specs.declared.effect.Effect.{Effect}
+use Rattle.transactions.specs.Seen.{Seen}
+use Rattle.transactions.specs.Lines.{title, prefix}
+use Rattle.transactions.specs.Replies.{tells}
+use Rattle.channel_leaving.specs.Leaving.{leaves}
 use Rattle.channel_commands.specs.Found.{channel_of, user_of}
 use Rattle.channel_commands.specs.Each.{each}
 use Rattle.channel_commands.specs.Lines.{part_line, kick_line}

@@ -7,11 +7,11 @@ use Rattle.numerics.specs.declared.numeric.Numeric.TheVariants.{ChanOPrivsNeeded
 use Rattle.registration.specs.declared.settings.Settings.{Settings}
 use Rattle.roster.specs.declared.deed.Deed.{Deed}
 use Rattle.roster.specs.declared.deed.Deed.TheVariants.{Changed}
-use Rattle.drafts.specs.declared.effect.Effect.{Effect}
-use Rattle.drafts.specs.declared.effect.Effect.TheVariants.{Establish, Show}
-use Rattle.drafts.specs.Seen.{Seen}
-use Rattle.drafts.specs.Lines.{prefix}
-use Rattle.drafts.specs.Replies.{tells}
+use Rattle.transactions.specs.declared.effect.Effect.{Effect}
+use Rattle.transactions.specs.declared.effect.Effect.TheVariants.{Establish, Show}
+use Rattle.transactions.specs.Seen.{Seen}
+use Rattle.transactions.specs.Lines.{prefix}
+use Rattle.transactions.specs.Replies.{tells}
 use Rattle.channel_commands.specs.Found.{channel_of}
 use Rattle.channel_commands.specs.Lines.{topic_line}
 

@@ -2,15 +2,16 @@
 ghost use Rattle.std.specs.Prelude.{◌≡◌, ◌∷◌, ◌++◌, [], filter, IfOk, OnOk};
 ghost use Rattle.std.specs.List.{list_any};
 ghost use Rattle.roster.specs.LookBack.{account, away, real};
-ghost use Rattle.drafts.specs.Words.{extended_join_line, grown, join_line, shown};
-ghost use Rattle.channel_commands.specs.Joining.{absence_shown, introduced, join_shown, takes_extended, takes_plain};
+ghost use Rattle.transactions.specs.Words.{extended_join_line, grown, join_line, shows_to};
+ghost use Rattle.channel_commands.specs.Joining.{absence_shown, arrival_shown, join_shown, takes_extended};
+ghost use Rattle.channel_commands.specs.Joining.{takes_plain};
 
 use crate::joined::Joined;
 use chronicle::SessionId;
-use drafts::{Draft, extended_join_line, join_line, show_away, takers};
 use registration::Cap;
 use roster::{Roster, Sessions};
 use std::alloc::{AllocError, Global};
+use transactions::{Transaction, extended_join_line, join_line, show_away, takers};
 
 // ---- by the form of JOIN that members take
 
@@ -31,7 +32,7 @@ fn is_one_extended(roster: &Roster, sessions: &[SessionId]) -> bool
 }
 
 /// Adds a session to those that take extended-join, or to the others.
-fn push_parted(
+fn push_by_form(
     roster: &Roster,
     extended: &mut Sessions,
     plain: &mut Sessions,
@@ -52,7 +53,7 @@ fn push_parted(
 /// Sessions that take extended-join, and the others, each in their order. Where nobody takes it, all are copied at
 /// once.
 #[tactic(auto, using(crate::proofs::Parted::nobody_extended, crate::proofs::Parted::all_plain))]
-fn parted(
+fn split_by_form(
     alloc: Global,
     roster: &Roster,
     sessions: &[SessionId],
@@ -63,12 +64,12 @@ fn parted(
 {
     if !is_one_extended(roster, sessions) {
         let nobody = Sessions::from_vec(Vec::new(alloc));
-        return Ok((nobody, Sessions::copied(alloc, sessions)?));
+        return Ok((nobody, Sessions::copy_of(alloc, sessions)?));
     }
     let mut extended = Sessions::from_vec(Vec::new(alloc));
     let mut plain = Sessions::from_vec(Vec::with_capacity(alloc, sessions.len())?);
     for session in sessions {
-        push_parted(roster, &mut extended, &mut plain, *session)?;
+        push_by_form(roster, &mut extended, &mut plain, *session)?;
     }
     Ok((extended, plain))
 }
@@ -76,91 +77,92 @@ fn parted(
 // ---- what they are shown
 
 /// Shows sessions, where there are any, a join.
-#[tactic(auto, unfolding(drafts::specs::Hearers::shown))]
+#[tactic(auto, unfolding(transactions::specs::Hearers::shows_to))]
 fn show_plainly(
-    draft: &mut Draft,
+    tx: &mut Transaction,
     hearers: Sessions,
     from: &[u8],
     joined: &Joined<'_>,
 ) -> Result<(), AllocError>
     ensures { OnOk result
-        (draft.new ≡ grown draft.old (shown hearers (join_line from.now joined.now.name))) }
+        (tx.new ≡ grown tx.old (shows_to hearers (join_line from.now joined.now.name))) }
 {
     if hearers.as_slice().is_empty() {
         return Ok(());
     }
-    let line = join_line(draft.alloc(), from, joined.name.as_slice())?;
-    draft.show(hearers, line)
+    let line = join_line(tx.alloc(), from, joined.name.as_slice())?;
+    tx.show(hearers, line)
 }
 
 /// Shows sessions, where there are any, a join with the account and the real name.
-#[tactic(auto, unfolding(drafts::specs::Hearers::shown))]
+#[tactic(auto, unfolding(transactions::specs::Hearers::shows_to))]
 fn show_extended(
-    draft: &mut Draft,
+    tx: &mut Transaction,
     hearers: Sessions,
     session: SessionId,
     from: &[u8],
     joined: &Joined<'_>,
 ) -> Result<(), AllocError>
-    ensures { OnOk result (draft.new ≡ grown draft.old (shown hearers (extended_join_line from.now
-        joined.now.name (account draft.old.base session) (real draft.old.base session)))) }
+    ensures { OnOk result (tx.new
+        ≡ grown tx.old (shows_to hearers (extended_join_line from.now
+        joined.now.name (account tx.old.base session) (real tx.old.base session)))) }
 {
     if hearers.as_slice().is_empty() {
         return Ok(());
     }
-    let roster = draft.before();
+    let roster = tx.before();
     let account = roster.enrol_of(session).account;
     let real = roster.real_of(session);
-    let line = extended_join_line(draft.alloc(), from, joined.name.as_slice(), account, real)?;
-    draft.show(hearers, line)
+    let line = extended_join_line(tx.alloc(), from, joined.name.as_slice(), account, real)?;
+    tx.show(hearers, line)
 }
 
 /// Shows members a join, each in the form that it takes.
-#[tactic(auto, using(drafts::proofs::Replay::grown_grown))]
+#[tactic(auto, using(transactions::proofs::Replay::grown_grown))]
 fn show_join(
-    draft: &mut Draft,
+    tx: &mut Transaction,
     session: SessionId,
     from: &[u8],
     joined: &Joined<'_>,
 ) -> Result<(), AllocError>
     ensures { OnOk result
-        (draft.new ≡ grown draft.old (join_shown draft.old.base session from.now joined.now)) }
+        (tx.new ≡ grown tx.old (join_shown tx.old.base session from.now joined.now)) }
 {
-    let (extended, plain) = parted(draft.alloc(), draft.before(), joined.members)?;
-    show_plainly(draft, plain, from, joined)?;
-    show_extended(draft, extended, session, from, joined)
+    let (extended, plain) = split_by_form(tx.alloc(), tx.before(), joined.members)?;
+    show_plainly(tx, plain, from, joined)?;
+    show_extended(tx, extended, session, from, joined)
 }
 
 /// Shows members, but for who joined, that it is away, where it is.
 fn show_absence(
-    draft: &mut Draft,
+    tx: &mut Transaction,
     session: SessionId,
     from: &[u8],
     joined: &Joined<'_>,
 ) -> Result<(), AllocError>
-    ensures { OnOk result (draft.new ≡ grown draft.old
-        (absence_shown draft.old.base session from.now joined.now (away draft.old.base session))) }
+    ensures { OnOk result (tx.new ≡ grown tx.old
+        (absence_shown tx.old.base session from.now joined.now (away tx.old.base session))) }
 {
-    let Some(text) = draft.before().away_of(session) else {
+    let Some(text) = tx.before().away_of(session) else {
         return Ok(());
     };
     let members = joined.members;
-    let mut hearers = takers(draft.alloc(), draft.before(), Cap::AwayNotify, members)?;
+    let mut hearers = takers(tx.alloc(), tx.before(), Cap::AwayNotify, members)?;
     hearers.remove(session);
-    show_away(draft, hearers, from, Some(text))
+    show_away(tx, hearers, from, Some(text))
 }
 
 /// Shows members that a session joined, and that it is away, where it is.
-#[tactic(auto, unfolding(crate::specs::Joining::introduced), using(drafts::proofs::Replay::grown_grown))]
+#[tactic(auto, unfolding(crate::specs::Joining::arrival_shown), using(transactions::proofs::Replay::grown_grown))]
 pub(crate) fn introduce(
-    draft: &mut Draft,
+    tx: &mut Transaction,
     session: SessionId,
     from: &[u8],
     joined: &Joined<'_>,
 ) -> Result<(), AllocError>
     ensures { OnOk result
-        (draft.new ≡ grown draft.old (introduced draft.old.base session from.now joined.now)) }
+        (tx.new ≡ grown tx.old (arrival_shown tx.old.base session from.now joined.now)) }
 {
-    show_join(draft, session, from, joined)?;
-    show_absence(draft, session, from, joined)
+    show_join(tx, session, from, joined)?;
+    show_absence(tx, session, from, joined)
 }

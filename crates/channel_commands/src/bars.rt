@@ -4,8 +4,8 @@ ghost use Rattle.channel_commands.specs.Joining.{has_other_key, is_stopped, is_u
 
 use channel_state::ChannelState;
 use chronicle::SessionId;
-use drafts::Denial;
 use line_grammar::Octets;
+use transactions::Denial;
 
 /// Whether a channel has another key.
 fn has_other_key(state: &ChannelState, given: &Octets) -> bool

@@ -2,7 +2,7 @@
 //! 3.2.4, 3.2.7 and 3.2.8).
 ghost use Rattle.std.specs.Prelude.{◌≡◌, ◌∷◌, ◌≤◌, length, OnOk, MatchOption};
 ghost use Rattle.roster.specs.Legal.{IsOpened};
-ghost use Rattle.drafts.specs.Words.{grown};
+ghost use Rattle.transactions.specs.Words.{grown};
 ghost use Rattle.command_params.specs.Params.{IsRead};
 ghost use Rattle.channel_commands.specs.Channel.{join_command};
 ghost use Rattle.channel_commands.specs.Channel.{part_command, kick_command, invite_command};
@@ -11,11 +11,11 @@ ghost use Rattle.channel_commands.specs.Channel.{topic_command, serves_channel};
 use crate::{invite, join, kick, part, set_topic};
 use chronicle::SessionId;
 use command_params::{
-    CommandName, JoinTargets, ReadFault, copied_first, first, needs_more, read_names, read_targets,
+    CommandName, JoinTargets, ReadFault, copy_first, first, needs_more, read_names, read_targets,
 };
-use drafts::Draft;
 use line_grammar::{LineParameters, Octets, OctetsList};
 use std::alloc::{AllocError, Global};
+use transactions::Transaction;
 
 /// What is asked about channels. Names and texts are as given. A list of names has no empty one, and none that
 /// repeats another in either case.
@@ -77,7 +77,7 @@ pub fn read_part(alloc: Global, params: &LineParameters<'_>) -> Result<ChannelCo
         return Err(needs_more(CommandName::Part));
     };
     let channels = read_names(alloc, list)?;
-    let text = Octets::copied(alloc, first(&params))?;
+    let text = Octets::copy_of(alloc, first(&params))?;
     Ok(ChannelCommand::Part { channels, text })
 }
 
@@ -88,9 +88,9 @@ pub fn read_kick(alloc: Global, params: &LineParameters<'_>) -> Result<ChannelCo
     let Some((channel, list, params)) = split_two(params) else {
         return Err(needs_more(CommandName::Kick));
     };
-    let channel = Octets::copied(alloc, channel)?;
+    let channel = Octets::copy_of(alloc, channel)?;
     let nicks = read_names(alloc, list)?;
-    let text = Octets::copied(alloc, first(&params))?;
+    let text = Octets::copy_of(alloc, first(&params))?;
     Ok(ChannelCommand::Kick {
         channel,
         nicks,
@@ -105,8 +105,8 @@ pub fn read_invite(alloc: Global, params: &LineParameters<'_>) -> Result<Channel
     let Some((nick, channel, _)) = split_two(params) else {
         return Err(needs_more(CommandName::Invite));
     };
-    let nick = Octets::copied(alloc, nick)?;
-    let channel = Octets::copied(alloc, channel)?;
+    let nick = Octets::copy_of(alloc, nick)?;
+    let channel = Octets::copy_of(alloc, channel)?;
     Ok(ChannelCommand::Invite { nick, channel })
 }
 
@@ -117,31 +117,31 @@ pub fn read_topic(alloc: Global, params: &LineParameters<'_>) -> Result<ChannelC
     let Some((channel, params)) = params.split_first() else {
         return Err(needs_more(CommandName::Topic));
     };
-    let channel = Octets::copied(alloc, channel)?;
-    let text = copied_first(alloc, &params)?;
+    let channel = Octets::copy_of(alloc, channel)?;
+    let text = copy_first(alloc, &params)?;
     Ok(ChannelCommand::Topic { channel, text })
 }
 
 /// Does what a command about channels asks for.
 pub fn serve_channel(
-    draft: &mut Draft,
+    tx: &mut Transaction,
     session: SessionId,
     command: &ChannelCommand,
 ) -> Result<(), AllocError>
-    requires opened { IsOpened draft.old.facts session }
-    requires first { draft.old.facts ≡ draft.old.base }
-    ensures { OnOk result (draft.new
-        ≡ grown draft.old (serves_channel draft.old.settings draft.old.facts session command.now)) }
+    requires opened { IsOpened tx.old.facts session }
+    requires first { tx.old.facts ≡ tx.old.base }
+    ensures { OnOk result (tx.new
+        ≡ grown tx.old (serves_channel tx.old.settings tx.old.facts session command.now)) }
 {
     match command {
-        ChannelCommand::Join { targets } => join(draft, session, targets.as_slice()),
-        ChannelCommand::Part { channels, text } => part(draft, session, channels.as_slice(), text),
+        ChannelCommand::Join { targets } => join(tx, session, targets.as_slice()),
+        ChannelCommand::Part { channels, text } => part(tx, session, channels.as_slice(), text),
         ChannelCommand::Kick {
             channel,
             nicks,
             text,
-        } => kick(draft, session, channel, nicks.as_slice(), text),
-        ChannelCommand::Invite { nick, channel } => invite(draft, session, nick, channel),
-        ChannelCommand::Topic { channel, text } => set_topic(draft, session, channel, text),
+        } => kick(tx, session, channel, nicks.as_slice(), text),
+        ChannelCommand::Invite { nick, channel } => invite(tx, session, nick, channel),
+        ChannelCommand::Topic { channel, text } => set_topic(tx, session, channel, text),
     }
 }

@@ -20,7 +20,7 @@ pub(crate) struct Joined<'a> {
 }
 
 impl<'a> Model for Joined<'a> {
-    ghost use Rattle.drafts.specs.Seen.{Seen};
+    ghost use Rattle.transactions.specs.Seen.{Seen};
     ghost use Rattle.query_commands.specs.Names.{with_members};
 
     ghost Value = { Seen };

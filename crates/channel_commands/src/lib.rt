@@ -5,14 +5,14 @@
 mod arriving;
 mod bars;
 mod channel;
-mod each;
+mod channel_lines;
+mod each_name;
 mod finding;
 mod inviting;
 mod joined;
 mod joining;
 mod kicking;
 mod leaving;
-mod lines;
 mod topics;
 
 pub use channel::{

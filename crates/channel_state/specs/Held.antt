@@ -14,7 +14,7 @@ pub record Rows : Type 0 where
   pub room : ℕ
 
 -- a channel, and how many more changes there is room for
-pub record Held : Type 0 where
+pub record ChannelView : Type 0 where
   pub state : State
   pub room : ℕ
 

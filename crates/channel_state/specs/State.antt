@@ -42,8 +42,8 @@ abbrev pub is_some_one : List ℕ → Bool
 is_some_one [] = false
 is_some_one (t ∷ ts) = true
 
-abbrev pub ranked : ℕ → Bool → List ℕ → List ℕ
-ranked t on ts = cond on (with_last t ts) (without t ts)
+abbrev pub with_rank : ℕ → Bool → List ℕ → List ℕ
+with_rank t on ts = cond on (with_last t ts) (without t ts)
 
 -- ---- modes
 
@@ -67,12 +67,12 @@ is_set Secret m = m.secret
 is_set TopicLocked m = m.topic_locked
 
 -- a flag is set or cleared
-abbrev pub flagged : Flag → Bool → Modes → Modes
-flagged InviteOnly on m = record m { invite_only = on }
-flagged Moderated on m = record m { moderated = on }
-flagged NoOutside on m = record m { no_outside = on }
-flagged Secret on m = record m { secret = on }
-flagged TopicLocked on m = record m { topic_locked = on }
+abbrev pub with_flag : Flag → Bool → Modes → Modes
+with_flag InviteOnly on m = record m { invite_only = on }
+with_flag Moderated on m = record m { moderated = on }
+with_flag NoOutside on m = record m { no_outside = on }
+with_flag Secret on m = record m { secret = on }
+with_flag TopicLocked on m = record m { topic_locked = on }
 
 -- ---- a channel
 
@@ -103,8 +103,8 @@ abbrev pub is_banned : State → List ℕ → Bool
 is_banned k source = list_any (λ mask. fits mask source) k.bans
 
 -- a session's invitation is used up
-abbrev pub uninvited : ℕ → State → State
-uninvited t k = record k { invited = without t k.invited; pardoned = without t k.pardoned }
+abbrev pub invite_used : ℕ → State → State
+invite_used t k = record k { invited = without t k.invited; pardoned = without t k.pardoned }
 
 -- a session is on it no more, and has no rank there
 abbrev pub left_by : ℕ → State → State
@@ -115,26 +115,26 @@ left_by t k = record k {
 }
 
 -- what a change makes of it. Who joins uses its invitation up
-abbrev pub changed : Change → State → State
-changed (Joined t) k = uninvited t (record k { members = with_last t k.members })
-changed (Left t) k = left_by t k
-changed (RankSet t Operator on) k = record k { operators = ranked t on k.operators }
-changed (RankSet t Voice on) k = record k { voices = ranked t on k.voices }
-changed (FlagSet flag on) k = record k { modes = flagged flag on k.modes }
-changed (KeySet key) k = record k { modes = record k.modes { key = key } }
-changed (LimitSet limit) k = record k { modes = record k.modes { limit = limit } }
-changed (TopicSet topic) k = record k { topic = topic }
-changed (BanSet mask) k = record k { bans = k.bans ++ mask ∷ [] }
-changed (BanLifted mask) k = record k { bans = filter (λ m. not (is_same m mask)) k.bans }
-changed (Invited t by_operator) k = record k {
+abbrev pub with_change : Change → State → State
+with_change (Joined t) k = invite_used t (record k { members = with_last t k.members })
+with_change (Left t) k = left_by t k
+with_change (RankSet t Operator on) k = record k { operators = with_rank t on k.operators }
+with_change (RankSet t Voice on) k = record k { voices = with_rank t on k.voices }
+with_change (FlagSet flag on) k = record k { modes = with_flag flag on k.modes }
+with_change (KeySet key) k = record k { modes = record k.modes { key = key } }
+with_change (LimitSet limit) k = record k { modes = record k.modes { limit = limit } }
+with_change (TopicSet topic) k = record k { topic = topic }
+with_change (BanSet mask) k = record k { bans = k.bans ++ mask ∷ [] }
+with_change (BanLifted mask) k = record k { bans = filter (λ m. not (is_same m mask)) k.bans }
+with_change (Invited t by_operator) k = record k {
   invited = with_last t k.invited;
-  pardoned = ranked t by_operator k.pardoned;
+  pardoned = with_rank t by_operator k.pardoned;
 }
 
 -- a session is gone from it
-abbrev pub departed : ℕ → State → State
-departed t k = uninvited t (left_by t k)
+abbrev pub after_gone : ℕ → State → State
+after_gone t k = invite_used t (left_by t k)
 
 -- a channel ends with its last member
-abbrev pub lasting : State → State
-lasting k = cond (is_some_one k.members) k nothing
+abbrev pub or_nothing : State → State
+or_nothing k = cond (is_some_one k.members) k nothing

@@ -43,7 +43,7 @@ impl Masks {
     }
 
     /// A copy.
-    pub(crate) fn copied(&self) -> Result<Masks, AllocError>
+    pub(crate) fn try_clone(&self) -> Result<Masks, AllocError>
         ensures { IfOk result (λ m. m.list ≡ self.now.list) }
     {
         Ok(Masks {

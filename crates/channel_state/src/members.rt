@@ -1,7 +1,7 @@
 //! Sessions on a channel.
 ghost use Rattle.std.specs.Prelude.{◌≡◌, ◌∷◌, ◌++◌, ◌-◌, ◌<◌, ◌≤◌, [], slice_get, Some, IfOk, IfSome, OnOk};
 ghost use Rattle.smallvec.specs.SmallVec.{small_vec_len};
-ghost use Rattle.channel_state.specs.State.{among, is_some_one, ranked, with_last, without};
+ghost use Rattle.channel_state.specs.State.{among, is_some_one, with_rank, with_last, without};
 ghost use Rattle.channel_state.specs.Held.{AreOnce};
 
 use crate::arrivals::Arrivals;
@@ -76,7 +76,7 @@ impl Members {
     }
 
     /// A copy, with room for no more, which is searched.
-    pub(crate) fn copied(&self) -> Result<Members, AllocError>
+    pub(crate) fn try_clone(&self) -> Result<Members, AllocError>
         ensures { IfOk result (λ m. m.list ≡ self.now.list) }
     {
         Ok(Members {
@@ -157,7 +157,7 @@ impl Members {
     /// Adds a session, or takes it out. It takes no memory.
     pub(crate) fn set(&mut self, session: SessionId, on: bool)
         requires { 0 < self.old.room }
-        ensures list { self.new.list ≡ ranked session on self.old.list }
+        ensures list { self.new.list ≡ with_rank session on self.old.list }
         ensures room { self.old.room - 1 ≤ self.new.room }
     {
         if on {

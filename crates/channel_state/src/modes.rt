@@ -1,6 +1,6 @@
 //! The modes of a channel (RFC 2811, section 4).
 ghost use Rattle.std.specs.Prelude.{◌≡◌};
-ghost use Rattle.channel_state.specs.State.{flagged, is_set, no_modes};
+ghost use Rattle.channel_state.specs.State.{with_flag, is_set, no_modes};
 
 use line_grammar::Octets;
 
@@ -64,7 +64,7 @@ impl Modes {
 
     /// Sets or clears a flag.
     pub(crate) fn set(&mut self, flag: Flag, on: bool)
-        ensures { self.new ≡ flagged flag on self.old }
+        ensures { self.new ≡ with_flag flag on self.old }
     {
         match flag {
             Flag::InviteOnly => self.invite_only = on,

@@ -1,7 +1,7 @@
 //! A channel (RFC 2811, sections 2 to 4).
 ghost use Rattle.std.specs.Prelude.{◌≡◌, ◌-◌, ◌<◌, ◌≤◌, option_copied, IfOk, OnOk, OnErr};
-ghost use Rattle.channel_state.specs.State.{among, changed, departed, is_banned, is_some_one};
-ghost use Rattle.channel_state.specs.State.{lasting, left_by, made_by, nothing, uninvited};
+ghost use Rattle.channel_state.specs.State.{among, with_change, after_gone, is_banned, is_some_one};
+ghost use Rattle.channel_state.specs.State.{or_nothing, left_by, made_by, nothing, invite_used};
 
 use crate::masks::Masks;
 use crate::members::Members;
@@ -28,9 +28,9 @@ pub struct ChannelState {
 }
 
 impl Model for ChannelState {
-    ghost use Rattle.channel_state.specs.Held.{Held, HaveRoom};
+    ghost use Rattle.channel_state.specs.Held.{ChannelView, HaveRoom};
 
-    ghost Value = { Held };
+    ghost Value = { ChannelView };
 
     ghost view = { λ a. record {
       state = record {
@@ -89,11 +89,11 @@ impl ChannelState {
         }) }
     {
         self.room = 0;
-        self.members = other.members.copied()?;
-        self.operators = other.operators.copied()?;
-        self.voices = other.voices.copied()?;
-        self.invited = other.invited.copied()?;
-        self.pardoned = other.pardoned.copied()?;
+        self.members = other.members.try_clone()?;
+        self.operators = other.operators.try_clone()?;
+        self.voices = other.voices.try_clone()?;
+        self.invited = other.invited.try_clone()?;
+        self.pardoned = other.pardoned.try_clone()?;
         Ok(())
     }
 
@@ -109,12 +109,12 @@ impl ChannelState {
         self.room = 0;
         self.modes = other.modes.clone()?;
         self.topic = other.topic.clone()?;
-        self.bans = other.bans.copied()?;
+        self.bans = other.bans.try_clone()?;
         Ok(())
     }
 
     /// A copy, with room for no change.
-    pub fn copied(&self) -> Result<ChannelState, AllocError>
+    pub fn try_clone(&self) -> Result<ChannelState, AllocError>
         ensures { IfOk result (λ k. k.state ≡ self.now.state) }
     {
         let mut copy = ChannelState::nothing(self.bans.alloc());
@@ -170,7 +170,7 @@ impl ChannelState {
 
     /// It isn't there any more, where nobody is on it. It takes no memory.
     pub fn last(&mut self)
-        ensures state { self.new.state ≡ lasting self.old.state }
+        ensures state { self.new.state ≡ or_nothing self.old.state }
         ensures room { self.new.room ≡ self.old.room }
     {
         if !self.members.is_some_one() {
@@ -180,7 +180,7 @@ impl ChannelState {
 
     /// A session's invitation is used up.
     fn uninvite(&mut self, session: SessionId)
-        ensures state { self.new.state ≡ uninvited session self.old.state }
+        ensures state { self.new.state ≡ invite_used session self.old.state }
         ensures room { self.new.room ≡ self.old.room }
     {
         self.invited.remove(session);
@@ -200,7 +200,7 @@ impl ChannelState {
     /// Changes it. It takes no memory.
     pub fn change(&mut self, change: Change)
         requires { 0 < self.old.room }
-        ensures state { self.new.state ≡ changed change self.old.state }
+        ensures state { self.new.state ≡ with_change change self.old.state }
         ensures room { self.new.room ≡ self.old.room - 1 }
     {
         self.room -= 1;
@@ -232,7 +232,7 @@ impl ChannelState {
 
     /// A session is gone from it. It takes no memory.
     pub fn depart(&mut self, session: SessionId)
-        ensures state { self.new.state ≡ departed session self.old.state }
+        ensures state { self.new.state ≡ after_gone session self.old.state }
         ensures room { self.new.room ≡ self.old.room }
     {
         self.leave(session);

@@ -5,7 +5,7 @@ use Rattle.std.specs.Borrow.{Bor}
 use Rattle.chronicle.specs.declared.record.Kind.{Kind}
 use Rattle.chronicle.specs.declared.record.Record.{Record}
 use Rattle.chronicle.specs.History.{Rec, rec_of}
-use Rattle.chronicle.specs.Kept.{Row}
+use Rattle.chronicle.specs.Kept.{RecordList}
 
 -- how many records may be kept, after how many that were dropped, and whether it was cut, of however many records
 pub record Limit : Type 0 where
@@ -19,7 +19,7 @@ most l = min (l.dropped + l.records) (2 ^ 60)
 
 -- all records, the newest first, and how many may be kept; how many more may be appended without memory; how many
 -- sessions may miss the next record without memory, and how many more the newest
-pub record Shown : Type 0 where
+pub record JournalView : Type 0 where
   pub history : List Rec
   pub limit : Limit
   pub room : ℕ
@@ -31,7 +31,7 @@ abbrev pub history_of : List Record → List Rec → List Rec
 history_of kept past = map rec_of (reverse kept) ++ past
 
 -- the history of whoever drops the records that it kept
-abbrev pub with_kept : List Rec → Row → List Rec
+abbrev pub with_kept : List Rec → RecordList → List Rec
 with_kept past kept = history_of kept.items past
 
 abbrev pub room_left : List Record → ℕ
@@ -39,7 +39,7 @@ room_left [] = 0
 room_left (r ∷ rs) = r.missed.capacity - length r.missed.items
 
 -- the same records, and no less room
-pub record IsRoomier (old new : Shown) : Type 0 where
+pub record IsRoomier (old new : JournalView) : Type 0 where
   pub history : new.history ≡ old.history
   pub limit : new.limit ≡ old.limit
   pub room : old.room ≤ new.room
@@ -52,7 +52,7 @@ fresh_record h m k = record { number = length h + 1; moment = m; kind = k; misse
 
 -- a record that nobody missed was appended, in room for one record; what was prepared is the room for those who miss
 -- it
-pub record Appends (old new : Shown) (m : ℤ) (k : Kind) : Type 0 where
+pub record Appends (old new : JournalView) (m : ℤ) (k : Kind) : Type 0 where
   pub history : new.history ≡ fresh_record old.history m k ∷ old.history
   pub limit : new.limit ≡ old.limit
   pub room : new.room + 1 ≡ old.room
@@ -64,14 +64,14 @@ miss [] t = []
 miss (r ∷ h) t = record { number = r.number; moment = r.moment; kind = r.kind; missed = r.missed ++ t ∷ [] } ∷ h
 
 -- a session was noted as one that missed the newest record, in room for one
-pub record Misses (old new : Shown) (t : ℕ) : Type 0 where
+pub record Misses (old new : JournalView) (t : ℕ) : Type 0 where
   pub history : new.history ≡ miss old.history t
   pub limit : new.limit ≡ old.limit
   pub room : new.room ≡ old.room
   pub left : new.left + 1 ≡ old.left
 
 -- all records were dropped, which leaves the history as it is, and no less room
-pub record Cuts (old new : Shown) : Type 0 where
+pub record Cuts (old new : JournalView) : Type 0 where
   pub history : new.history ≡ old.history
   pub limit : new.limit ≡ record { records = old.limit.records; dropped = length old.history; is_cut = true }
   pub room : old.room ≤ new.room
@@ -84,5 +84,5 @@ record_at (Some r) = Some (rec_of r.now)
 
 -- the record of this number, unless it is one of those that were dropped: in the order of their numbers, the first
 -- is number 1
-abbrev pub numbered : List Rec → ℕ → ℕ → Option Rec
-numbered h dropped n = cond (nat_le n dropped) None (slice_get (reverse h) (n - 1))
+abbrev pub nth_record : List Rec → ℕ → ℕ → Option Rec
+nth_record h dropped n = cond (nat_le n dropped) None (slice_get (reverse h) (n - 1))

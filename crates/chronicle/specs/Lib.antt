@@ -1,5 +1,5 @@
 pub mod Reasons
 pub mod History
-pub mod Quiet
+pub mod Idle
 pub mod Kept
 pub mod Journal

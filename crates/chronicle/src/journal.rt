@@ -2,10 +2,10 @@
 ghost use Rattle.std.specs.Prelude.{◌≡◌, ◌<◌, ◌≤◌, ◌+◌, ◌-◌, ◌^◌, ◌↔◌, ◌∷◌, [], false, length, OnOk, OnErr};
 ghost use Rattle.std.specs.Prelude.{IfOk, IsErrOf};
 
-use crate::kept::Kept;
+use crate::kept_records::KeptRecords;
 use crate::{Kind, Moment, Record, RecordNumber, SessionId};
-use ghosts::{Change, Snapshot, apply};
 use smallvec::SmallVec;
+use snapshots::{GhostChange, Snapshot, apply};
 use std::alloc::{AllocError, Global};
 use std::marker::Model;
 use std::mem;
@@ -38,7 +38,7 @@ impl Model for Past {
 // The records that were kept are dropped.
 struct Drops;
 
-impl Change<Past, Kept> for Drops {
+impl GhostChange<Past, KeptRecords> for Drops {
     ghost use Rattle.chronicle.specs.Journal.{with_kept};
 
     ghost changed = { with_kept };
@@ -49,7 +49,7 @@ impl Change<Past, Kept> for Drops {
 #[derive(Drop)]
 pub struct Journal {
     /// Those that weren't dropped.
-    records: Kept,
+    records: KeptRecords,
     limit: usize,
     prepared: SmallVec<SessionId, 1>,
     /// How many were dropped.
@@ -64,9 +64,9 @@ pub struct Journal {
 impl Model for Journal {
     ghost use Rattle.std.specs.Prelude.{◌≡◌, [], reverse, length, min, ◌+◌, ◌-◌, ◌^◌, ◌≤◌};
     ghost use Rattle.chronicle.specs.History.{last_moment};
-    ghost use Rattle.chronicle.specs.Journal.{Shown, room_left, most, history_of};
+    ghost use Rattle.chronicle.specs.Journal.{JournalView, room_left, most, history_of};
 
-    ghost Value = { Shown };
+    ghost Value = { JournalView };
 
     ghost view = { λ a. record {
       history = history_of a.records.items a.past.value;
@@ -86,7 +86,7 @@ impl Model for Journal {
 
 impl Journal {
     ghost use Rattle.chronicle.specs.History.{last_moment};
-    ghost use Rattle.chronicle.specs.Journal.{Appends, Misses, Cuts, IsRoomier, record_at, numbered, most};
+    ghost use Rattle.chronicle.specs.Journal.{Appends, Misses, Cuts, IsRoomier, record_at, nth_record, most};
 
     /// An empty journal that keeps at most `limit` records.
     pub fn with_limit(alloc: Global, limit: usize) -> Result<Journal, AllocError>
@@ -95,7 +95,7 @@ impl Journal {
             × (j.limit ≡ record { records = limit; dropped = 0; is_cut = false })) }
     {
         Ok(Journal {
-            records: Kept::new(alloc),
+            records: KeptRecords::new(alloc),
             limit,
             prepared: SmallVec::new(alloc),
             dropped: 0,
@@ -170,7 +170,7 @@ impl Journal {
     pub fn cut(&mut self)
         ensures { Cuts self.old self.new }
     {
-        apply::<Drops, Past, Kept>(&mut self.past, &self.records);
+        apply::<Drops, Past, KeptRecords>(&mut self.past, &self.records);
         self.dropped += self.records.len();
         self.is_cut = true;
         self.records.clear();
@@ -178,7 +178,7 @@ impl Journal {
 
     /// The record of this number, if there is one that wasn't dropped.
     pub fn get(&self, number: RecordNumber) -> Option<&Record>
-        ensures { record_at result ≡ numbered self.now.history self.now.limit.dropped number }
+        ensures { record_at result ≡ nth_record self.now.history self.now.limit.dropped number }
     {
         let place = number.number() as usize;
         if place <= self.dropped {

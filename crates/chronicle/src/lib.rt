@@ -1,13 +1,13 @@
 //! The journal: the list of records that everything else is read from.
 #![tactic(auto)]
 
+mod ids;
 mod journal;
-mod kept;
-mod names;
+mod kept_records;
 mod record;
 mod why;
 
+pub use ids::{Moment, RecordMoment, RecordNumber, SessionId};
 pub use journal::{Journal, JournalRefusal};
-pub use names::{Moment, RecordMoment, RecordNumber, SessionId};
 pub use record::{Kind, Record};
 pub use why::Why;

@@ -26,7 +26,7 @@ pub enum Kind {
     Gone {
         session: SessionId,
     },
-    /// The clock was looked at: sessions that are quiet are pinged.
+    /// The clock was looked at: sessions that are idle are pinged.
     Ticked,
 }
 

@@ -19,7 +19,7 @@ pub enum Why {
     Memory,
     /// The server stops.
     Shutdown,
-    /// It was quiet for too long.
+    /// It was idle for too long.
     PingTimeout,
 }
 

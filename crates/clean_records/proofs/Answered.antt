@@ -8,10 +8,10 @@ use Rattle.chronicle.specs.declared.record.Kind.{Kind}
 use Rattle.chronicle.specs.declared.record.Kind.TheVariants as kind
 use Rattle.chronicle.specs.History.{Rec, actor}
 use Rattle.registration.specs.declared.settings.Settings.{Settings}
-use Rattle.labels_batches.specs.Answers.{answered, tagged_as}
+use Rattle.labels_batches.specs.Answers.{whole_answer, tagged_as}
 use Rattle.roster.specs.declared.deed.Deed.{Deed}
 use Rattle.roster.specs.LookBack.{caps}
-use Rattle.drafts.specs.Effects.{copies, due, reply}
+use Rattle.transactions.specs.Effects.{copies, due, reply}
 use Rattle.deeds.specs.Deeds.{effects, facts, label_in, lines}
 use Rattle.answer_octets.specs.Clean.{IsCleanTagged, IsMoment, IsTagText}
 use Rattle.answer_octets.proofs.Answers.{clean, lines-cut, tagged-clean}
@@ -42,7 +42,7 @@ answers g h k m n label serves are is moment small counted =
 
 own-lines : (g : Settings) (h : List Rec) (k : Kind) (m : ℤ) (n : ℕ) (o : Option (List ℕ)) → IsServing g
     → IsCleanHistory h → IsCleanKind k → IsMoment m → n < 2 ^ 64 → label_in (facts g h) k ≡ o
-    → All IsCleanTagged (answered g.server o n (reply (actor k) (effects g (facts g h) k))
+    → All IsCleanTagged (whole_answer g.server o n (reply (actor k) (effects g (facts g h) k))
     (copies (effects g (facts g h) k)))
 own-lines g h k m n None serves are is moment small e =
     let es = effects g (facts g h) k in let all = lines-clean g h k serves are is in
@@ -58,7 +58,8 @@ all-lines : (g : Settings) (h : List Rec) (k : Kind) (m : ℤ) (n t : ℕ) → I
     → All IsCleanTagged (lines g (actor k) (label_in (facts g h) k) (effects g (facts g h) k) n t)
 all-lines g h k m n t serves are is moment small =
     let es = effects g (facts g h) k in let o = label_in (facts g h) k in
-    cond_both (actor k == t) (answered g.server o n (reply (actor k) es) (copies es)) (map (tagged_as None) (due es t))
+    cond_both (actor k == t) (whole_answer g.server o n (reply (actor k) es) (copies es))
+    (map (tagged_as None) (due es t))
     (All IsCleanTagged) (λ _. own-lines g h k m n o serves are is moment small refl)
     (λ _. tagged-clean None tt (due es t) ((lines-clean g h k serves are is).shown_are t))
 

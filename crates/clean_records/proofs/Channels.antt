@@ -9,10 +9,10 @@ use Rattle.line_grammar.specs.Parts.{is_present}
 use Rattle.line_grammar.specs.Reading.{is_command}
 use Rattle.line_grammar.specs.Spelling.{is_text_octet}
 use Rattle.channel_state.specs.declared.change.Change.TheVariants.{Joined, Left, Invited, TopicSet}
-use Rattle.channel_state.specs.State.{among, changed, made_by, without}
+use Rattle.channel_state.specs.State.{among, with_change, made_by, without}
 use Rattle.command_params.specs.declared.fault.ReadFault.{ReadFault}
 use Rattle.command_params.specs.declared.join_targets.JoinTarget.{JoinTarget}
-use Rattle.command_params.specs.Lists.{is_comma, paired, targets_of}
+use Rattle.command_params.specs.Lists.{is_comma, with_keys, targets_of}
 use Rattle.command_params.specs.Params.{first_or_empty}
 use Rattle.numerics.specs.declared.numeric.Numeric.TheVariants.{Away, ChanOPrivsNeeded, Inviting, NoSuchChannel}
 use Rattle.numerics.specs.declared.numeric.Numeric.TheVariants.{NoSuchNick, NotOnChannel, NoTopic, TooManyChannels}
@@ -25,17 +25,17 @@ use Rattle.registration.specs.declared.settings.Settings.{Settings}
 use Rattle.roster.specs.declared.deed.Deed.{Deed}
 use Rattle.roster.specs.declared.deed.Deed.TheVariants.{ChannelMade, Changed}
 use Rattle.roster.specs.LookBack.{account, after, away, channel_count, nick, real}
-use Rattle.drafts.specs.declared.denials.Denial.{Denial}
-use Rattle.drafts.specs.declared.denials.Denial.TheVariants.{NoSuchNick as NoNick}
-use Rattle.drafts.specs.declared.effect.Effect.{Effect}
-use Rattle.drafts.specs.declared.effect.Effect.TheVariants.{Establish, Show}
-use Rattle.drafts.specs.Denials.{denied}
-use Rattle.drafts.specs.Effects.{deeds_of}
-use Rattle.drafts.specs.Hearers.{shown, takes}
-use Rattle.drafts.specs.Lines.{away_line, extended_join_line, join_line, prefix, title}
-use Rattle.drafts.specs.Replies.{tells, tells_all}
-use Rattle.drafts.specs.Seen.{Seen, seen}
-use Rattle.departing.specs.Leaving.{leaves}
+use Rattle.transactions.specs.declared.denials.Denial.{Denial}
+use Rattle.transactions.specs.declared.denials.Denial.TheVariants.{NoSuchNick as NoNick}
+use Rattle.transactions.specs.declared.effect.Effect.{Effect}
+use Rattle.transactions.specs.declared.effect.Effect.TheVariants.{Establish, Show}
+use Rattle.transactions.specs.Denials.{numeric_for}
+use Rattle.transactions.specs.Effects.{deeds_of}
+use Rattle.transactions.specs.Hearers.{shows_to, takes}
+use Rattle.transactions.specs.Lines.{away_line, extended_join_line, join_line, prefix, title}
+use Rattle.transactions.specs.Replies.{tells, tells_all}
+use Rattle.transactions.specs.Seen.{Seen, seen}
+use Rattle.channel_leaving.specs.Leaving.{leaves}
 use Rattle.query_commands.specs.Names.{names_told}
 use Rattle.channel_commands.specs.declared.channel.ChannelCommand.{ChannelCommand}
 use Rattle.channel_commands.specs.declared.channel.ChannelCommand.TheVariants as channel
@@ -45,10 +45,10 @@ use Rattle.channel_commands.specs.Channel.{serves_channel, topic_command}
 use Rattle.channel_commands.specs.Each.{each, each_counted}
 use Rattle.channel_commands.specs.Found.{channel_of, user_of}
 use Rattle.channel_commands.specs.Inviting.{away_told, invites_found, invites_seen, invites_user}
-use Rattle.channel_commands.specs.Joining.{absence_shown, bar_of, entered, enters, enters_unless, introduced}
+use Rattle.channel_commands.specs.Joining.{absence_shown, bar_of, arrives, enters, enters_unless, arrival_shown}
 use Rattle.channel_commands.specs.Joining.{join_shown}
 use Rattle.channel_commands.specs.Joining.{joins, joins_one, joins_seen, makes, takes_extended, takes_plain}
-use Rattle.channel_commands.specs.Joining.{topic_told, welcomed}
+use Rattle.channel_commands.specs.Joining.{topic_told, arrival_told}
 use Rattle.channel_commands.specs.Leaving.{kick_text, kicks, kicks_each, kicks_found, kicks_one, kicks_seen}
 use Rattle.channel_commands.specs.Leaving.{kicks_user}
 use Rattle.channel_commands.specs.Leaving.{parts, parts_one, parts_seen}
@@ -107,8 +107,8 @@ abbrev pub IsCleanTarget : JoinTarget → Type 0
 IsCleanTarget t = IsText t.channel
 
 arrival : (fs : List Deed) (s : ℕ) (from : List ℕ) (k : Seen) → Facts fs → IsFrom from → IsCleanSeen k
-    → Clean (introduced fs s from k)
-unfolding introduced
+    → Clean (arrival_shown fs s from k)
+unfolding arrival_shown
 arrival fs s from k facts is seen = joined (join_shown fs s from k) (absence_shown fs s from k (away fs s)) both
     (absence (away fs s) (away-is fs s facts))
   where
@@ -119,8 +119,8 @@ arrival fs s from k facts is seen = joined (join_shown fs s from k) (absence_sho
     both =
         let plain = join_line from k.name in
         let extended = extended_join_line from k.name (account fs s) (real fs s) in
-        joined (shown (filter (takes_plain fs) k.state.members) plain)
-        (shown (filter (takes_extended fs) k.state.members) extended)
+        joined (shows_to (filter (takes_plain fs) k.state.members) plain)
+        (shows_to (filter (takes_extended fs) k.state.members) extended)
         (some_shown (filter (takes_plain fs) k.state.members) plain
         (from-line from (codes "JOIN") (k.name ∷ []) false is refl (omega arith) (one k.name name)))
         (some_shown (filter (takes_extended fs) k.state.members) extended
@@ -140,11 +140,12 @@ topic-clean g k None name is = tt
 topic-clean g k (Some topic) name is = (record { words = one k.name name; text = is }, tt)
 
 entry : (g : Settings) (fs0 fs : List Deed) (s : ℕ) (from : List ℕ) (k : Seen) → IsServing g → Facts fs0 → Facts fs
-    → IsFrom from → IsCleanSeen k → Clean (entered g fs0 fs s from k)
-unfolding entered
+    → IsFrom from → IsCleanSeen k → Clean (arrives g fs0 fs s from k)
+unfolding arrives
 entry g fs0 fs s from k serves before facts is seen =
-    joined (introduced fs0 s from k) (tells_all g fs s (welcomed g fs0 s k)) (arrival fs0 s from k before is seen)
-    (told_all g fs s (welcomed g fs0 s k) serves facts (all-both (IsTextNumeric g) (topic_told k k.state.topic)
+    joined (arrival_shown fs0 s from k) (tells_all g fs s (arrival_told g fs0 s k))
+    (arrival fs0 s from k before is seen)
+    (told_all g fs s (arrival_told g fs0 s k) serves facts (all-both (IsTextNumeric g) (topic_told k k.state.topic)
     (names_told g fs0 s k) (topic-clean g k k.state.topic (channel-text k.name seen.name) seen.state.topic)
     (names-clean g fs0 s k before seen)))
 
@@ -152,20 +153,20 @@ making : (g : Settings) (fs0 fs : List Deed) (s : ℕ) (from c : List ℕ) → I
     → IsFrom from → IsChannel c → Clean (makes g fs0 fs s from c)
 making g fs0 fs s from c serves before facts is shaped =
     let k : Seen = record { name = c; state = made_by s } in
-    more (Establish (ChannelMade s c)) (entered g fs0 (ChannelMade s c ∷ fs) s from k) shaped
+    more (Establish (ChannelMade s c)) (arrives g fs0 (ChannelMade s c ∷ fs) s from k) shaped
     (entry g fs0 (ChannelMade s c ∷ fs) s from k serves before (with-fact (ChannelMade s c) fs shaped facts) is
     (record { name = shaped; state = made-clean s }))
 
 entering : (g : Settings) (fs0 fs : List Deed) (s : ℕ) (from : List ℕ) (k : Seen) → IsServing g → Facts fs0
     → Facts fs → IsFrom from → IsCleanSeen k → Clean (enters g fs0 fs s from k)
 entering g fs0 fs s from k serves before facts is seen =
-    let joined_now : Seen = record { name = k.name; state = changed (Joined s) k.state } in
+    let joined_now : Seen = record { name = k.name; state = with_change (Joined s) k.state } in
     let d = Changed k.name (Joined s) in
-    more (Establish d) (entered g fs0 (d ∷ fs) s from joined_now) (seen.name, tt)
+    more (Establish d) (arrives g fs0 (d ∷ fs) s from joined_now) (seen.name, tt)
     (entry g fs0 (d ∷ fs) s from joined_now serves before (with-fact d fs (seen.name, tt) facts) is
     (record { name = seen.name; state = changed-clean (Joined s) k.state tt seen.state }))
 
-pub denial-row : (g : Settings) (why : Denial) (n : List ℕ) → IsText n → IsTextNumeric g (denied why n)
+pub denial-row : (g : Settings) (why : Denial) (n : List ℕ) → IsText n → IsTextNumeric g (numeric_for why n)
 denial-row g NoNick n is = record { words = one n is; text = refl }
 denial-row g _ n is = record { words = one n is; text = refl }
 
@@ -173,7 +174,8 @@ unless_barred : (g : Settings) (fs0 fs : List Deed) (s : ℕ) (from : List ℕ) 
     → IsServing g → Facts fs0 → Facts fs → IsFrom from → IsCleanSeen k → Clean (enters_unless g fs0 fs s from k bar)
 unless_barred g fs0 fs s from k None serves before facts is seen =
     entering g fs0 fs s from k serves before facts is seen
-unless_barred g fs0 fs s from k (Some bar) serves before facts is seen = told_only g fs s (denied bar k.name) serves
+unless_barred g fs0 fs s from k (Some bar) serves before facts is seen =
+    told_only g fs s (numeric_for bar k.name) serves
     facts (denial-row g bar k.name (channel-text k.name seen.name))
 
 joining_seen : (g : Settings) (fs0 fs : List Deed) (s : ℕ) (from : List ℕ) (n : ℕ) (t : JoinTarget) (o : Option Seen)
@@ -405,7 +407,7 @@ IsCleanChannel (channel.Topic name text) = IsText name × IfSome text IsText
 abbrev IsReadChannel : Result ChannelCommand ReadFault → Type 0
 IsReadChannel read = IsCleanRead IsCleanChannel read
 
-paired-texts : (cs keys : List (List ℕ)) → AllByRecursion IsText cs → AllByRecursion IsCleanTarget (paired cs keys)
+paired-texts : (cs keys : List (List ℕ)) → AllByRecursion IsText cs → AllByRecursion IsCleanTarget (with_keys cs keys)
 paired-texts [] keys are = tt
 paired-texts (c ∷ cs) [] are = (are.0, paired-texts cs [] are.1)
 paired-texts (c ∷ cs) (key ∷ keys) are = (are.0, paired-texts cs keys are.1)
@@ -413,7 +415,7 @@ paired-texts (c ∷ cs) (key ∷ keys) are = (are.0, paired-texts cs keys are.1)
 targets-texts : (list keys : List ℕ) → IsText list → AllByRecursion IsCleanTarget (targets_of list keys)
 targets-texts list keys is =
     let cs = slice_split is_comma list in
-    let ts = paired cs (slice_split is_comma keys) in
+    let ts = with_keys cs (slice_split is_comma keys) in
     distinct-all IsCleanTarget (λ t. t.channel) (filter (λ t. is_present t.channel) ts)
     (all-filter IsCleanTarget (λ t. is_present t.channel) ts (paired-texts cs (slice_split is_comma keys)
     (all-texts cs (split-kept is_text_octet is_comma list is))))

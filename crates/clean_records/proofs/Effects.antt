@@ -12,12 +12,12 @@ use Rattle.numerics.specs.Outgoing.{line}
 use Rattle.registration.specs.declared.settings.Settings.{Settings}
 use Rattle.roster.specs.declared.deed.Deed.{Deed}
 use Rattle.roster.specs.LookBack.{after, nick}
-use Rattle.drafts.specs.declared.effect.Effect.{Effect}
-use Rattle.drafts.specs.declared.effect.Effect.TheVariants.{Establish, Answer, Show, Copy}
-use Rattle.drafts.specs.Effects.{deeds_of}
-use Rattle.drafts.specs.Hearers.{shown}
-use Rattle.drafts.specs.Lines.{prefix, title}
-use Rattle.drafts.specs.Replies.{tells, tells_all}
+use Rattle.transactions.specs.declared.effect.Effect.{Effect}
+use Rattle.transactions.specs.declared.effect.Effect.TheVariants.{Establish, Answer, Show, Copy}
+use Rattle.transactions.specs.Effects.{deeds_of}
+use Rattle.transactions.specs.Hearers.{shows_to}
+use Rattle.transactions.specs.Lines.{prefix, title}
+use Rattle.transactions.specs.Replies.{tells, tells_all}
 use Rattle.answer_octets.specs.Clean.{IsClean, IsTextRow}
 use Rattle.answer_octets.proofs.Names.{settings-server}
 use Rattle.answer_octets.proofs.Numerics.{line-clean, numeric-clean}
@@ -45,8 +45,8 @@ pub either : (b : Bool) (xs ys : List Effect) → Clean xs → Clean ys → Clea
 either true xs ys f g = f
 either false xs ys f g = g
 
-pub some_shown : (hearers : List ℕ) (l : Out) → IsClean l → Clean (shown hearers l)
-unfolding shown
+pub some_shown : (hearers : List ℕ) (l : Out) → IsClean l → Clean (shows_to hearers l)
+unfolding shows_to
 some_shown hearers l is = either (length hearers == 0) [] (Show hearers l ∷ []) none (only (Show hearers l) is)
 
 pub of_all : {A : Type 0} (P : A → Type 0) (f : A → List Effect) → ((x : A) → P x → Clean (f x)) → (xs : List A)

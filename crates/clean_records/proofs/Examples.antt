@@ -13,12 +13,12 @@ use Rattle.line_grammar.specs.declared.splitter.Piece.TheVariants.{Line, TooLong
 use Rattle.registration.specs.declared.accounts.Account.{Account}
 use Rattle.registration.specs.declared.settings.Settings.{Settings}
 use Rattle.roster.specs.declared.deed.Deed.TheVariants as deed
-use Rattle.drafts.specs.declared.effect.Effect.TheVariants.{Answer, Establish}
-use Rattle.drafts.specs.Lines.{go_on_line, pong_line}
+use Rattle.transactions.specs.declared.effect.Effect.TheVariants.{Answer, Establish}
+use Rattle.transactions.specs.Lines.{go_on_line, pong_line}
 use Rattle.line_grammar.specs.Spelling.{is_text_octet}
 use Rattle.line_grammar.specs.Reading.{parameters, reading, with_command}
 use Rattle.commands.specs.Asked.{asked_of}
-use Rattle.command_params.specs.Names.{named}
+use Rattle.command_params.specs.Names.{known_name}
 use Rattle.commands.specs.Commands.{command_by, command_of}
 use Rattle.deeds.specs.Deeds.{effects}
 use Rattle.clean_records.specs.Clean.{AreCleanEffects, IsCleanDeed, IsCleanEffect, IsCleanHistory, IsCleanKind}
@@ -154,6 +154,6 @@ parted : (g : Settings) → AreCleanEffects (effects g (deed.Ended 1 Quit broken
 parted g are = no (are 0 (Answer go_on_line) (omega arith)).params
 
 ponged : (g : Settings) → AreCleanEffects (effects g [] (kind.Said 1 1 (Line piece_of_two))) → ⊥
-unfolding asked_of reading parameters with_command command_of command_by named
+unfolding asked_of reading parameters with_command command_of command_by known_name
 ponged g are =
     no (and_parts (list_all is_text_octet g.server) false (are 0 (Answer go_on_line) (omega arith)).params).1

@@ -5,9 +5,9 @@ use Rattle.std.proofs.lemmas.List.Elements.{All-append, All-cons, All-nil, recur
 use Rattle.chronicle.specs.History.{Rec}
 use Rattle.numerics.specs.declared.outgoing.Out.{Out}
 use Rattle.registration.specs.declared.settings.Settings.{Settings}
-use Rattle.drafts.specs.declared.effect.Effect.{Effect}
-use Rattle.drafts.specs.declared.effect.Effect.TheVariants.{Establish, Answer, Show, Copy}
-use Rattle.drafts.specs.Effects.{copied, copies, due, heard, replied, reply, shown_by}
+use Rattle.transactions.specs.declared.effect.Effect.{Effect}
+use Rattle.transactions.specs.declared.effect.Effect.TheVariants.{Establish, Answer, Show, Copy}
+use Rattle.transactions.specs.Effects.{copy_lines, copies, due, lines_heard, reply_lines, reply, shown_by}
 use Rattle.deeds.specs.Deeds.{effects, facts}
 use Rattle.answer_octets.specs.Clean.{IsClean}
 use Rattle.answer_octets.proofs.Blocks.{word-text}
@@ -38,13 +38,13 @@ as-often : (l : Out) (hs : List ℕ) → IsClean l → All IsClean (map (λ (h :
 as-often l [] is = All-nil IsClean
 as-often l (h ∷ hs) is = All-cons IsClean l (map (λ (h : ℕ). l) hs) is (as-often l hs is)
 
-heard-clean : (hearers : List ℕ) (l : Out) (t : ℕ) → IsClean l → All IsClean (heard hearers l t)
+heard-clean : (hearers : List ℕ) (l : Out) (t : ℕ) → IsClean l → All IsClean (lines_heard hearers l t)
 heard-clean hearers l t is = as-often l (filter (λ h. h == t) hearers) is
 
 just : (l : Out) → IsClean l → All IsClean (l ∷ [])
 just l is = All-cons IsClean l [] is (All-nil IsClean)
 
-replied-clean : (s : ℕ) (e : Effect) → IsCleanEffect e → All IsClean (replied s e)
+replied-clean : (s : ℕ) (e : Effect) → IsCleanEffect e → All IsClean (reply_lines s e)
 replied-clean s (Establish d) is = All-nil IsClean
 replied-clean s (Answer l) is = just l is
 replied-clean s (Show hearers l) is = heard-clean hearers l s is
@@ -53,9 +53,9 @@ replied-clean s (Copy l) is = All-nil IsClean
 reply-clean : (s : ℕ) (es : List Effect) → AllByRecursion IsCleanEffect es → All IsClean (reply s es)
 reply-clean s [] are = All-nil IsClean
 reply-clean s (e ∷ es) are =
-    All-append IsClean (replied s e) (reply s es) (replied-clean s e are.0) (reply-clean s es are.1)
+    All-append IsClean (reply_lines s e) (reply s es) (replied-clean s e are.0) (reply-clean s es are.1)
 
-copied-clean : (e : Effect) → IsCleanEffect e → All IsClean (copied e)
+copied-clean : (e : Effect) → IsCleanEffect e → All IsClean (copy_lines e)
 copied-clean (Establish d) is = All-nil IsClean
 copied-clean (Answer l) is = All-nil IsClean
 copied-clean (Show hearers l) is = All-nil IsClean
@@ -64,7 +64,7 @@ copied-clean (Copy l) is = just l is
 copies-clean : (es : List Effect) → AllByRecursion IsCleanEffect es → All IsClean (copies es)
 copies-clean [] are = All-nil IsClean
 copies-clean (e ∷ es) are =
-    All-append IsClean (copied e) (copies es) (copied-clean e are.0) (copies-clean es are.1)
+    All-append IsClean (copy_lines e) (copies es) (copied-clean e are.0) (copies-clean es are.1)
 
 shown-clean : (e : Effect) (t : ℕ) → IsCleanEffect e → All IsClean (shown_by e t)
 shown-clean (Establish d) t is = All-nil IsClean

@@ -3,7 +3,7 @@ use Rattle.std.proofs.Common.{ℕ, Bool, List, [], ◌∷◌, ◌++◌, map, fil
 use Rattle.std.proofs.Common.{IfSome, Some, find, refl, sym, subst, inl, inr}
 use Rattle.std.specs.List.{AllByRecursion}
 use Rattle.std.proofs.lemmas.Bool.{and_from, and_parts, cases_Bool, cond_both}
-use Rattle.numerics.specs.Cut.{cut, filled, takes}
+use Rattle.numerics.specs.Cut.{cut_lines, lines_with, takes}
 use Rattle.numerics.proofs.Cuts.{filled-full, filled-more}
 use Rattle.clean_records.proofs.Texts.{AreTexts, one, texts-both}
 use Rattle.clean_records.specs.Clean.{IsText}
@@ -52,7 +52,7 @@ texts-all (t ∷ ts) are = and_from _ _ are.0 (texts-all ts are.1)
 -- ---- lines of words
 
 filled-texts : (room most : ℕ) (line words : List (List ℕ)) → AreTexts line → AreTexts words
-    → AllByRecursion AreTexts (filled room most line words)
+    → AllByRecursion AreTexts (lines_with room most line words)
 filled-texts room most line [] a b = (a, tt)
 filled-texts room most line (w ∷ ws) a b =
     let parts = and_parts _ _ b in
@@ -67,8 +67,8 @@ filled-texts room most line (w ∷ ws) a b =
     ]
 
 pub cut-texts : (room most : ℕ) (words : List (List ℕ)) → AreTexts words
-    → AllByRecursion AreTexts (cut room most words)
-unfolding cut
+    → AllByRecursion AreTexts (cut_lines room most words)
+unfolding cut_lines
 cut-texts room most [] are = tt
 cut-texts room most (w ∷ ws) are =
     let parts = and_parts _ _ are in filled-texts room most (w ∷ []) ws (one w parts.0) parts.1

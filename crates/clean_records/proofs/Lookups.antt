@@ -11,17 +11,18 @@ use Rattle.channel_state.specs.declared.change.Rank.TheVariants.{Operator, Voice
 use Rattle.channel_state.specs.declared.modes.Flag.TheVariants.{InviteOnly, Moderated, NoOutside, Secret, TopicLocked}
 use Rattle.channel_state.specs.declared.modes.Flag.{Flag}
 use Rattle.channel_state.specs.declared.modes.Modes.{Modes}
-use Rattle.channel_state.specs.State.{State, changed, departed, flagged, is_some_one, lasting, made_by, nothing}
+use Rattle.channel_state.specs.State.{State, with_change, after_gone, with_flag, is_some_one, or_nothing, made_by}
+use Rattle.channel_state.specs.State.{nothing}
 use Rattle.line_grammar.specs.Spelling.{is_text_octet}
 use Rattle.roster.specs.declared.deed.Deed.{Deed}
 use Rattle.roster.specs.declared.deed.Deed.TheVariants.{Opened, NickSet, UserSet}
 use Rattle.roster.specs.declared.deed.Deed.TheVariants.{LoggedIn, AwaySet}
 use Rattle.roster.specs.declared.deed.Deed.TheVariants.{ChannelMade, Changed, Ended, Gone}
-use Rattle.roster.specs.LookBack.{account, away, has_member, host, name, name_of, newest, nick, parting, real}
-use Rattle.roster.specs.LookBack.{reshaped, state, tells_account, tells_away, tells_host, tells_name, tells_nick}
+use Rattle.roster.specs.LookBack.{account, away, has_member, host, name, name_of, newest, nick, parting_text, real}
+use Rattle.roster.specs.LookBack.{state_after, state, tells_account, tells_away, tells_host, tells_name, tells_nick}
 use Rattle.roster.specs.LookBack.{tells_parting, tells_real, tells_user, user}
-use Rattle.drafts.specs.Lines.{prefix, title}
-use Rattle.drafts.specs.Seen.{Seen, seen}
+use Rattle.transactions.specs.Lines.{prefix, title}
+use Rattle.transactions.specs.Seen.{Seen, seen}
 use Rattle.answer_octets.specs.Clean.{IsWordOf}
 use Rattle.answer_octets.proofs.Kept.{filter-all}
 use Rattle.answer_octets.proofs.Names.{hosts-words, nicks-words, prefix-word}
@@ -114,7 +115,7 @@ parting-told s (Ended t w x) is = when IsText (t == s) x is
 parting-told s (Gone t) is = when IsText (t == s) [] refl
 parting-told s d is = tt
 
-pub parting-is : (fs : List Deed) (s : ℕ) → Facts fs → IsText (parting fs s)
+pub parting-is : (fs : List Deed) (s : ℕ) → Facts fs → IsText (parting_text fs s)
 parting-is fs s facts = newest-is IsText (tells_parting s) [] refl (parting-told s) fs facts.all
 
 no-word : (n : ℕ) → IsWordOf n []
@@ -184,14 +185,14 @@ none-clean = record { key = tt; topic = tt; bans = refl }
 pub made-clean : (t : ℕ) → IsCleanState (made_by t)
 made-clean t = record { key = tt; topic = tt; bans = refl }
 
-flagged-key : (f : Flag) (on : Bool) (m : Modes) → IfSome m.key IsText → IfSome (flagged f on m).key IsText
+flagged-key : (f : Flag) (on : Bool) (m : Modes) → IfSome m.key IsText → IfSome (with_flag f on m).key IsText
 flagged-key InviteOnly on m is = is
 flagged-key Moderated on m is = is
 flagged-key NoOutside on m is = is
 flagged-key Secret on m is = is
 flagged-key TopicLocked on m is = is
 
-pub changed-clean : (x : Change) (k : State) → IsCleanChange x → IsCleanState k → IsCleanState (changed x k)
+pub changed-clean : (x : Change) (k : State) → IsCleanChange x → IsCleanState k → IsCleanState (with_change x k)
 changed-clean (Joined t) k is old = record { key = old.key; topic = old.topic; bans = old.bans }
 changed-clean (Left t) k is old = record { key = old.key; topic = old.topic; bans = old.bans }
 changed-clean (RankSet t Operator on) k is old = record { key = old.key; topic = old.topic; bans = old.bans }
@@ -216,19 +217,20 @@ changed-clean (BanLifted mask) k is old = record {
 }
 changed-clean (Invited t by_operator) k is old = record { key = old.key; topic = old.topic; bans = old.bans }
 
-lasting-clean : (k : State) → IsCleanState k → IsCleanState (lasting k)
+lasting-clean : (k : State) → IsCleanState k → IsCleanState (or_nothing k)
 lasting-clean k is = cond_both (is_some_one k.members) k nothing IsCleanState (λ _. is) (λ _. none-clean)
 
-departed-clean : (t : ℕ) (k : State) → IsCleanState k → IsCleanState (departed t k)
+departed-clean : (t : ℕ) (k : State) → IsCleanState k → IsCleanState (after_gone t k)
 departed-clean t k old = record { key = old.key; topic = old.topic; bans = old.bans }
 
-reshaped-clean : (d : Deed) (c : List ℕ) (k : State) → IsCleanDeed d → IsCleanState k → IsCleanState (reshaped d c k)
+reshaped-clean : (d : Deed) (c : List ℕ) (k : State) → IsCleanDeed d → IsCleanState k
+    → IsCleanState (state_after d c k)
 reshaped-clean (ChannelMade t n) c k is old =
     cond_both (is_same n c) (made_by t) k IsCleanState (λ _. made-clean t) (λ _. old)
 reshaped-clean (Changed n x) c k is old =
-    cond_both (is_same n c) (lasting (changed x k)) k IsCleanState
-    (λ _. lasting-clean (changed x k) (changed-clean x k is.1 old)) (λ _. old)
-reshaped-clean (Gone t) c k is old = lasting-clean (departed t k) (departed-clean t k old)
+    cond_both (is_same n c) (or_nothing (with_change x k)) k IsCleanState
+    (λ _. lasting-clean (with_change x k) (changed-clean x k is.1 old)) (λ _. old)
+reshaped-clean (Gone t) c k is old = lasting-clean (after_gone t k) (departed-clean t k old)
 reshaped-clean d c k is old = old
 
 state-all : (fs : List Deed) (c : List ℕ) → AllByRecursion IsCleanDeed fs → IsCleanState (state fs c)
@@ -247,18 +249,19 @@ some-kept : (p : ℕ → Bool) (ts : List ℕ) → is_some_one (filter p ts) ≡
 some-kept p [] is = is
 some-kept p (t ∷ ts) is = refl
 
-lasting-some : (k : State) → is_some_one (lasting k).members ≡ true → is_some_one k.members ≡ true
+lasting-some : (k : State) → is_some_one (or_nothing k).members ≡ true → is_some_one k.members ≡ true
 lasting-some k is = cond_both (is_some_one k.members) k nothing
     (λ l. is_some_one l.members ≡ true → is_some_one k.members ≡ true) (λ some. λ _. some)
     (λ _. λ no. absurd (let e : false ≡ true = no in cc)) is
 
-shape-kept : (d : Deed) (c : List ℕ) (k : State) → IsCleanDeed d → HasShape c k → HasShape c (reshaped d c k)
+shape-kept : (d : Deed) (c : List ℕ) (k : State) → IsCleanDeed d → HasShape c k → HasShape c (state_after d c k)
 shape-kept (ChannelMade t n) c k is old =
     cond_both (is_same n c) (made_by t) k (HasShape c) (λ same. λ _. same-shape n c same is) (λ _. old)
 shape-kept (Changed n x) c k is old =
-    cond_both (is_same n c) (lasting (changed x k)) k (HasShape c) (λ same. λ _. same-shape n c same is.0) (λ _. old)
+    cond_both (is_same n c) (or_nothing (with_change x k)) k (HasShape c) (λ same. λ _. same-shape n c same is.0)
+    (λ _. old)
 shape-kept (Gone t) c k is old = λ some. old (some-kept (λ u. not (u == t)) k.members
-    (lasting-some (departed t k) some))
+    (lasting-some (after_gone t k) some))
 shape-kept d c k is old = old
 
 there-all : (fs : List Deed) (c : List ℕ) → AllByRecursion IsCleanDeed fs → HasShape c (state fs c)

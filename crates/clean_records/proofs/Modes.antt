@@ -5,7 +5,8 @@ use Rattle.std.proofs.Common.{refl, arith}
 use Rattle.std.specs.List.{AllByRecursion, list_any}
 use Rattle.std.proofs.lemmas.Bool.{and_from, and_parts, cond_both}
 use Rattle.line_grammar.specs.Spelling.{is_text_octet, needs_colon}
-use Rattle.channel_state.specs.declared.change.Change.TheVariants.{RankSet, FlagSet, KeySet, LimitSet, BanSet, BanLifted}
+use Rattle.channel_state.specs.declared.change.Change.TheVariants.{RankSet, FlagSet, KeySet, LimitSet, BanSet}
+use Rattle.channel_state.specs.declared.change.Change.TheVariants.{BanLifted}
 use Rattle.channel_state.specs.declared.change.Rank.{Rank}
 use Rattle.channel_state.specs.declared.change.Rank.TheVariants.{Operator, Voice}
 use Rattle.channel_state.specs.declared.modes.Flag.{Flag}
@@ -15,32 +16,33 @@ use Rattle.numerics.specs.declared.numeric.Numeric.TheVariants as numeric
 use Rattle.registration.specs.declared.settings.Settings.{Settings}
 use Rattle.roster.specs.declared.deed.Deed.{Deed}
 use Rattle.roster.specs.declared.deed.Deed.TheVariants.{Changed, InvisibleSet}
-use Rattle.roster.specs.LookBack.{after, found, invisible, nick}
-use Rattle.drafts.specs.declared.effect.Effect.TheVariants.{Establish, Answer, Show}
-use Rattle.drafts.specs.Effects.{deeds_of}
-use Rattle.drafts.specs.Lines.{prefix, title}
-use Rattle.drafts.specs.Replies.{tells, tells_all}
-use Rattle.drafts.specs.Seen.{Seen, seen}
+use Rattle.roster.specs.LookBack.{after, user_named, invisible, nick}
+use Rattle.transactions.specs.declared.effect.Effect.TheVariants.{Establish, Answer, Show}
+use Rattle.transactions.specs.Effects.{deeds_of}
+use Rattle.transactions.specs.Lines.{prefix, title}
+use Rattle.transactions.specs.Replies.{tells, tells_all}
+use Rattle.transactions.specs.Seen.{Seen, seen}
 use Rattle.mode_commands.specs.declared.letters.ModeChange.{ModeChange}
 use Rattle.mode_commands.specs.declared.modes.ModeCommand.{ModeCommand}
 use Rattle.mode_commands.specs.declared.steps.Refusal.{Refusal}
 use Rattle.mode_commands.specs.declared.steps.Refusal.TheVariants.{LacksParameter, Nobody, NotMember, Unknown}
-use Rattle.mode_commands.specs.declared.steps.Step.{Step}
-use Rattle.mode_commands.specs.declared.steps.Step.TheVariants as step
+use Rattle.mode_commands.specs.declared.steps.ModeStep.{ModeStep}
+use Rattle.mode_commands.specs.declared.steps.ModeStep.TheVariants as step
 use Rattle.mode_commands.specs.ChannelModes.{asks_bans, ban_numerics, channel_modes, does, does_changes}
 use Rattle.mode_commands.specs.ChannelModes.{refusal_numeric, shows_changes, takes_changes, tells_modes}
 use Rattle.mode_commands.specs.ChannelModes as modes_of
-use Rattle.mode_commands.specs.Letters.{Reading, asked, asked_changes, asks, past, past_next, takes_param, with_next}
+use Rattle.mode_commands.specs.Letters.{Reading, letters_ask, asked_changes, asks, past, past_next, takes_param}
+use Rattle.mode_commands.specs.Letters.{with_next}
 use Rattle.mode_commands.specs.Letters as letters_of
 use Rattle.mode_commands.specs.Lines.{key_told, letter_where, letters_after, letters_set, limit_told, mode_line}
 use Rattle.mode_commands.specs.Lines.{params_of}
 use Rattle.mode_commands.specs.Lines.{params_set, sign, sign_after}
 use Rattle.mode_commands.specs.Modes.{mode_command, names_channel, of_channel, of_user, serves_mode}
-use Rattle.mode_commands.specs.Parameters.{after_bang, completed, completed_by, has_octet, is_key, limit_of}
+use Rattle.mode_commands.specs.Parameters.{after_bang, full_mask, completed_by, has_octet, is_key, limit_of}
 use Rattle.mode_commands.specs.Steps.{agree, all_shown, ban_step, flag_of, flag_step, has_ban, has_key, has_limit}
 use Rattle.mode_commands.specs.Steps.{has_rank, key_given, key_lifted, key_set, key_step, limit_given, limit_lifted}
 use Rattle.mode_commands.specs.Steps.{limit_set, limit_step, mask_step, member_step, rank_step, shown_by, shown_with}
-use Rattle.mode_commands.specs.Steps.{stepped, steps, user_step}
+use Rattle.mode_commands.specs.Steps.{after_mode, steps, user_step}
 use Rattle.mode_commands.specs.Steps as steps_of
 use Rattle.mode_commands.specs.UserModes.{hides, invisible_after, is_known, modes_text, own_modes, tells_unknown}
 use Rattle.answer_octets.specs.Clean.{IsClean}
@@ -73,7 +75,7 @@ next-clean r letter (p ∷ ps) is are =
     (λ _. (record { letter = is; param = are.0 }, tt))
 
 told-modes : (r : Reading) (letter : ℕ) → is_text_octet letter ≡ true → HasTexts r
-    → AreCleanModes (letters_of.told r letter)
+    → AreCleanModes (letters_of.letter_asks r letter)
 told-modes r letter is are =
     cond_both (letter == 43) [] _ AreCleanModes (λ _. tt)
     (λ _. cond_both (letter == 45) [] _ AreCleanModes (λ _. tt)
@@ -91,11 +93,11 @@ past-texts r letter are =
     (λ _. cond_both (takes_param r.on letter) (past_next r r.params) r HasTexts (λ _. next-texts r r.params are are)
     (λ _. are)))
 
-asked-clean : (r : Reading) (letters : List ℕ) → IsText letters → HasTexts r → AreCleanModes (asked r letters)
+asked-clean : (r : Reading) (letters : List ℕ) → IsText letters → HasTexts r → AreCleanModes (letters_ask r letters)
 asked-clean r [] is are = tt
 asked-clean r (b ∷ bs) is are =
     let parts = and_parts _ _ is in
-    all-both IsCleanMode (letters_of.told r b) (asked (past r b) bs) (told-modes r b parts.0 are)
+    all-both IsCleanMode (letters_of.letter_asks r b) (letters_ask (past r b) bs) (told-modes r b parts.0 are)
     (asked-clean (past r b) bs parts.1 (past-texts r b are))
 
 -- ---- a letter of a channel
@@ -106,7 +108,7 @@ IsCleanRefusal (Nobody n) = IsText n
 IsCleanRefusal (NotMember n) = IsText n
 IsCleanRefusal (Unknown letter) = is_text_octet letter ≡ true
 
-abbrev IsCleanStep : Step → Type 0
+abbrev IsCleanStep : ModeStep → Type 0
 IsCleanStep step.Nothing = Unit {0}
 IsCleanStep (step.Refused why) = IsCleanRefusal why
 IsCleanStep (step.Changes x shown) = IsCleanChange x × IsCleanMode shown
@@ -134,7 +136,7 @@ user-clean fs k rank a n (Some t) facts is name =
 rank-clean : (fs : List Deed) (k : State) (rank : Rank) (a : ModeChange) (o : Option (List ℕ)) → Facts fs
     → IsCleanMode a → IfSome o IsText → IsCleanStep (rank_step fs k rank a o)
 rank-clean fs k rank a None facts is name = tt
-rank-clean fs k rank a (Some n) facts is name = user-clean fs k rank a n (found fs n) facts is name
+rank-clean fs k rank a (Some n) facts is name = user-clean fs k rank a n (user_named fs n) facts is name
 
 completed-by : (mask : List ℕ) (o : Option (List ℕ)) → IsText mask → IsText (completed_by mask o)
 completed-by mask None is =
@@ -143,8 +145,8 @@ completed-by mask None is =
 completed-by mask (Some rest) is =
     cond_both (has_octet 64 rest) mask (mask ++ codes "@*") IsText (λ _. is) (λ _. both mask (codes "@*") is refl)
 
-completed-text : (mask : List ℕ) → IsText mask → IsText (completed mask)
-unfolding completed
+completed-text : (mask : List ℕ) → IsText mask → IsText (full_mask mask)
+unfolding full_mask
 completed-text mask is = completed-by mask (after_bang mask) is
 
 mask-clean : (k : State) (a : ModeChange) (mask : List ℕ) → IsCleanMode a → IsText mask
@@ -161,8 +163,8 @@ ban-clean : (k : State) (a : ModeChange) (o : Option (List ℕ)) → IsCleanMode
     → IsCleanStep (ban_step k a o)
 ban-clean k a None is text = tt
 ban-clean k a (Some mask) is text =
-    cond_both (needs_colon mask) step.Nothing (mask_step k a (completed mask)) IsCleanStep (λ _. tt)
-    (λ _. mask-clean k a (completed mask) is (completed-text mask text))
+    cond_both (needs_colon mask) step.Nothing (mask_step k a (full_mask mask)) IsCleanStep (λ _. tt)
+    (λ _. mask-clean k a (full_mask mask) is (completed-text mask text))
 
 key_set-clean : (k : State) (a : ModeChange) (key : List ℕ) → IsCleanMode a → IsText key
     → IsCleanStep (key_set k a key)
@@ -223,7 +225,7 @@ steps-clean : (fs : List Deed) (k : State) (bs : List ModeChange) → Facts fs �
     → AllByRecursion IsCleanStep (steps fs k bs)
 steps-clean fs k [] facts are = tt
 steps-clean fs k (a ∷ bs) facts are =
-    (step-clean fs k a facts are.0, steps-clean fs (stepped (steps_of.step fs k a) k) bs facts are.1)
+    (step-clean fs k a facts are.0, steps-clean fs (after_mode (steps_of.step fs k a) k) bs facts are.1)
 
 -- ---- what is shown
 
@@ -257,12 +259,12 @@ mode-clean fs s target bs facts is are =
     from-session fs s (codes "MODE") (target ∷ letters_after None bs ∷ params_of bs) false facts refl (omega arith)
     (and_from _ _ is (and_from _ _ (letters-text None bs are) (params-texts bs are)))
 
-one-shown : (x : Step) → IsCleanStep x → AreCleanModes (shown_by x)
+one-shown : (x : ModeStep) → IsCleanStep x → AreCleanModes (shown_by x)
 one-shown step.Nothing is = tt
 one-shown (step.Refused why) is = tt
 one-shown (step.Changes x shown) is = (is.1, tt)
 
-shown-clean : (xs : List Step) → AllByRecursion IsCleanStep xs → AreCleanModes (all_shown xs)
+shown-clean : (xs : List ModeStep) → AllByRecursion IsCleanStep xs → AreCleanModes (all_shown xs)
 shown-clean [] are = tt
 shown-clean (x ∷ xs) are =
     all-both IsCleanMode (shown_by x) (all_shown xs) (one-shown x are.0) (shown-clean xs are.1)
@@ -335,14 +337,14 @@ refusal-row g c (Unknown letter) name is = record {
   text = name;
 }
 
-doing : (g : Settings) (s : ℕ) (c : List ℕ) (fs : List Deed) (x : Step) → IsServing g → Facts fs → IsChannel c
+doing : (g : Settings) (s : ℕ) (c : List ℕ) (fs : List Deed) (x : ModeStep) → IsServing g → Facts fs → IsChannel c
     → IsCleanStep x → Clean (does g s c fs x)
 doing g s c fs step.Nothing serves facts shaped is = none
 doing g s c fs (step.Refused why) serves facts shaped is =
     told_only g fs s (refusal_numeric c why) serves facts (refusal-row g c why (channel-text c shaped) is)
 doing g s c fs (step.Changes x shown) serves facts shaped is = only (Establish (Changed c x)) (shaped, is.0)
 
-doing_each : (g : Settings) (s : ℕ) (c : List ℕ) (fs : List Deed) (xs : List Step) → IsServing g → Facts fs
+doing_each : (g : Settings) (s : ℕ) (c : List ℕ) (fs : List Deed) (xs : List ModeStep) → IsServing g → Facts fs
     → IsChannel c → AllByRecursion IsCleanStep xs → Clean (modes_of.in_turn g s c fs xs)
 doing_each g s c fs [] serves facts shaped are = none
 doing_each g s c fs (x ∷ xs) serves facts shaped are =
@@ -442,6 +444,6 @@ pub of_mode : (g : Settings) (fs : List Deed) (s : ℕ) (k : ModeCommand) → Is
     → Clean (serves_mode g fs s k)
 of_mode g fs s k serves facts is =
     either (names_channel k.target) (of_channel g fs s k.target k.changes (seen fs k.target))
-    (of_user g fs s k.target k.changes (found fs k.target))
+    (of_user g fs s k.target k.changes (user_named fs k.target))
     (if_a_channel g fs s k.target k.changes (seen fs k.target) serves facts is.0 is.1 (seen-is fs k.target facts))
-    (if_a_user g fs s k.target k.changes (found fs k.target) serves facts is.0)
+    (if_a_user g fs s k.target k.changes (user_named fs k.target) serves facts is.0)

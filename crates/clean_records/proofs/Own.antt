@@ -9,9 +9,9 @@ use Rattle.chronicle.specs.Reasons.{text}
 use Rattle.registration.specs.declared.settings.Settings.{Settings}
 use Rattle.roster.specs.declared.deed.Deed.{Deed}
 use Rattle.roster.specs.declared.deed.Deed.TheVariants as deed
-use Rattle.roster.specs.LookBack.{parting, sharers, why}
-use Rattle.drafts.specs.declared.effect.Effect.TheVariants.{Establish, Show}
-use Rattle.drafts.specs.Lines.{prefix, quit_line}
+use Rattle.roster.specs.LookBack.{parting_text, sharers, why}
+use Rattle.transactions.specs.declared.effect.Effect.TheVariants.{Establish, Show}
+use Rattle.transactions.specs.Lines.{prefix, quit_line}
 use Rattle.deeds.specs.Departure.{departs, farewell}
 use Rattle.deeds.specs.Deeds.{effects}
 use Rattle.clean_records.specs.Clean.{IsCleanKind, IsText, is_own}
@@ -36,10 +36,10 @@ farewell-text w (x ∷ xs) is = is
 
 pub departing : (fs : List Deed) (s : ℕ) → Facts fs → Clean (departs fs s)
 departing fs s facts =
-    let words = farewell (why fs s) (parting fs s) in let d = Establish (deed.Gone s) in
+    let words = farewell (why fs s) (parting_text fs s) in let d = Establish (deed.Gone s) in
     more (Show (sharers fs s) (quit_line (prefix fs s) words)) (d ∷ [])
     (from-session fs s (codes "QUIT") (words ∷ []) true facts refl (omega arith)
-    (one words (farewell-text (why fs s) (parting fs s) (parting-is fs s facts))))
+    (one words (farewell-text (why fs s) (parting_text fs s) (parting-is fs s facts))))
     (only d tt)
 
 pub own : (g : Settings) (fs : List Deed) (k : Kind) → Facts fs → is_own k ≡ true → IsCleanKind k

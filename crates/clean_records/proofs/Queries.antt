@@ -10,18 +10,18 @@ use Rattle.numerics.specs.declared.numeric.Numeric.{Numeric}
 use Rattle.numerics.specs.declared.numeric.Numeric.TheVariants as numeric
 use Rattle.numerics.specs.declared.prefix.Prefix.{Prefix}
 use Rattle.numerics.specs.declared.prefix.Prefix.TheVariants.{Operator, Voice}
-use Rattle.numerics.specs.Cut.{cut}
+use Rattle.numerics.specs.Cut.{cut_lines}
 use Rattle.numerics.specs.Numerics.{flags, marks, sign}
 use Rattle.registration.specs.declared.settings.Settings.{Settings}
 use Rattle.roster.specs.declared.deed.Deed.{Deed}
-use Rattle.roster.specs.LookBack.{away, channels_on, found, nick}
-use Rattle.drafts.specs.Lines.{title}
-use Rattle.drafts.specs.Seen.{Seen, seen}
+use Rattle.roster.specs.LookBack.{away, channels_on, user_named, nick}
+use Rattle.transactions.specs.Lines.{title}
+use Rattle.transactions.specs.Seen.{Seen, seen}
 use Rattle.command_params.specs.declared.fault.ReadFault.TheVariants.{NoNicknameGiven}
 use Rattle.command_params.specs.Lists.{list_given}
 use Rattle.query_commands.specs.declared.query.Query.{Query}
 use Rattle.query_commands.specs.declared.query.Query.TheVariants as query
-use Rattle.query_commands.specs.Listing.{channels_asked, listed, listed_seen, lists_told}
+use Rattle.query_commands.specs.Listing.{channels_asked, list_told, listed_seen, lists_told}
 use Rattle.query_commands.specs.Motd.{motd_asked}
 use Rattle.query_commands.specs.Names.{member_name, member_names, name_lines, names_asked, names_of, names_room}
 use Rattle.query_commands.specs.Names.{names_seen, names_told, rank_of}
@@ -93,7 +93,7 @@ names-clean g fs s k facts is =
     let name = channel-text k.name is.name in
     let texts = texts-map (member_name fs k.state) (member-text fs k.state facts) (members_for fs s k.state) in
     all-both (IsTextNumeric g) (name_lines k (names_room g fs s k) names) (numeric.EndOfNames k.name ∷ [])
-    (name-lines g k.state.modes.secret k.name (cut (names_room g fs s k) (length names) names) name
+    (name-lines g k.state.modes.secret k.name (cut_lines (names_room g fs s k) (length names) names) name
     (cut-texts (names_room g fs s k) (length names) names texts)) (ended g k.name name)
 
 names-of-one : (g : Settings) (fs : List Deed) (s : ℕ) → Facts fs → (c : List ℕ) → IsText c
@@ -125,8 +125,8 @@ listed-clean g (Some k) is = (
 
 list-all : (g : Settings) (fs : List Deed) (s : ℕ) (cs : List (List ℕ)) → Facts fs → AllTold g (lists_told fs s cs)
 list-all g fs s cs facts =
-    all-both (IsTextNumeric g) (flat_map (listed fs s) cs) (numeric.ListEnd ∷ [])
-    (each-flat (IsTextNumeric g) (listed fs s) (λ c. listed-clean g (channel_for fs s c) (for-is fs s c facts)) cs)
+    all-both (IsTextNumeric g) (flat_map (list_told fs s) cs) (numeric.ListEnd ∷ [])
+    (each-flat (IsTextNumeric g) (list_told fs s) (λ c. listed-clean g (channel_for fs s c) (for-is fs s c facts)) cs)
     (last g numeric.ListEnd (record { words = refl; text = refl }))
 
 -- ---- WHO
@@ -180,7 +180,7 @@ channels-clean : (g : Settings) (fs : List Deed) (s t : ℕ) (n : List ℕ) → 
     → AllTold g (channels_told g fs s t n)
 channels-clean g fs s t n facts is =
     let titles = channel_titles fs s t in let room = channels_room g fs s n in
-    channel-lines g n (cut room (length titles) titles) is (cut-texts room (length titles) titles
+    channel-lines g n (cut_lines room (length titles) titles) is (cut-texts room (length titles) titles
     (texts-all titles (each-flat IsText (λ c. title_seen t (channel_for fs s c))
     (λ c. title-texts t (channel_for fs s c) (for-is fs s c facts)) (channels_on fs t))))
 
@@ -256,7 +256,7 @@ told-clean : (g : Settings) (fs : List Deed) (s : ℕ) (q : Query) → IsServing
 told-clean g fs s (query.Names cs) serves facts is = names-all g fs s cs facts is
 told-clean g fs s (query.List cs) serves facts is = list-all g fs s (channels_asked fs cs) facts
 told-clean g fs s (query.Who n) serves facts is = who-all g fs s n serves facts is
-told-clean g fs s (query.Whois n) serves facts is = whois-all g fs s n (found fs n) serves facts is
+told-clean g fs s (query.Whois n) serves facts is = whois-all g fs s n (user_named fs n) serves facts is
 told-clean g fs s (query.Motd server) serves facts is = motd-all g server serves is
 
 pub of_query : (g : Settings) (fs : List Deed) (s : ℕ) (q : Query) → IsServing g → Facts fs → IsCleanQuery q

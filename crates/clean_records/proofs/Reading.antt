@@ -4,7 +4,7 @@ use Rattle.line_grammar.specs.declared.message.Message.{Message}
 use Rattle.command_params.specs.declared.name.CommandName.{CommandName}
 use Rattle.command_params.specs.declared.name.CommandName.TheVariants as name
 use Rattle.command_params.specs.declared.fault.ReadFault.{ReadFault}
-use Rattle.command_params.specs.Names.{name_text, named}
+use Rattle.command_params.specs.Names.{name_text, known_name}
 use Rattle.commands.specs.Commands.{as_topic, by_name, command_by, command_of}
 use Rattle.commands.specs.declared.command.Command.{Command}
 use Rattle.commands.specs.declared.command.Command.TheVariants.{Session, Channel, Mode, Talk, Query}
@@ -79,7 +79,7 @@ by-name (Some c) m text = command-by c m text
 
 pub command-read : (m : Message) → HasText m → IsReadCommand (command_of m)
 unfolding command_of
-command-read m text = by-name (named m.command) m text
+command-read m text = by-name (known_name m.command) m text
 
 -- ---- the laws of the topics
 

@@ -11,8 +11,8 @@ use Rattle.numerics.specs.declared.numeric.Numeric.TheVariants as numeric
 use Rattle.registration.specs.declared.settings.Settings.{Settings}
 use Rattle.roster.specs.declared.deed.Deed.{Deed}
 use Rattle.roster.specs.LookBack.{after, registered}
-use Rattle.drafts.specs.Effects.{deeds_of}
-use Rattle.drafts.specs.Replies.{tells}
+use Rattle.transactions.specs.Effects.{deeds_of}
+use Rattle.transactions.specs.Replies.{tells}
 use Rattle.command_params.specs.Names.{name_text}
 use Rattle.command_params.specs.declared.fault.ReadFault.{ReadFault}
 use Rattle.command_params.specs.declared.fault.ReadFault.TheVariants.{UnknownCommand, NeedMoreParams}
@@ -24,9 +24,10 @@ use Rattle.commands.specs.declared.asked.Asked.{Asked}
 use Rattle.commands.specs.declared.asked.Asked.TheVariants.{Nothing, TooLong, Command as Asks, Fault as Fails}
 use Rattle.commands.specs.declared.command.Command.{Command}
 use Rattle.commands.specs.declared.command.Command.TheVariants.{Session, Channel, Mode, Talk, Query}
-use Rattle.session_commands.specs.Registration.{completed}
+use Rattle.session_commands.specs.Registration.{if_ready}
 use Rattle.deeds.specs.Deeds.{effects}
-use Rattle.deeds.specs.Rows.{asked, fault_numeric, is_for_registered, is_silent, of_asked, of_command, refused, served}
+use Rattle.deeds.specs.Rows.{if_allowed, fault_numeric, is_for_registered, is_silent, of_asked, of_command}
+use Rattle.deeds.specs.Rows.{tells_fault, by_itself}
 use Rattle.deeds.specs.Rows.{turned_away}
 use Rattle.answer_octets.specs.Clean.{is_one_line}
 use Rattle.answer_octets.proofs.Pieces.{read-text}
@@ -70,7 +71,7 @@ piece-clean (piece.Line line) is = asked-clean line (reading line) is refl
 -- ---- what is done
 
 serving : (g : Settings) (fs : List Deed) (s : ℕ) (k : Command) → IsServing g → Facts fs → IsCleanCommand k
-    → Clean (served g fs s k)
+    → Clean (by_itself g fs s k)
 serving g fs s (Session k) serves facts is = of_session g fs s k serves facts is
 serving g fs s (Channel k) serves facts is = of_channel g fs s k serves facts is
 serving g fs s (Mode k) serves facts is = of_mode g fs s k serves facts is
@@ -83,19 +84,19 @@ turning_away g fs s k serves facts = either (is_silent k) [] (tells g fs s numer
     (told_only g fs s numeric.NotRegistered serves facts (record { words = refl; text = refl }))
 
 asking : (g : Settings) (fs : List Deed) (s : ℕ) (k : Command) → IsServing g → Facts fs → IsCleanCommand k
-    → Clean (asked g fs s k)
+    → Clean (if_allowed g fs s k)
 asking g fs s k serves facts is = either (is_for_registered k && not (registered fs s)) (turned_away g fs s k)
-    (served g fs s k) (turning_away g fs s k serves facts) (serving g fs s k serves facts is)
+    (by_itself g fs s k) (turning_away g fs s k serves facts) (serving g fs s k serves facts is)
 
 commanding : (g : Settings) (fs : List Deed) (s : ℕ) (k : Command) → IsServing g → Facts fs → IsCleanCommand k
     → Clean (of_command g fs s k)
 commanding g fs s k serves facts is =
-    let es = asked g fs s k in let first = asking g fs s k serves facts is in
-    joined es (completed g (after fs (deeds_of es)) s) first
+    let es = if_allowed g fs s k in let first = asking g fs s k serves facts is in
+    joined es (if_ready g (after fs (deeds_of es)) s) first
     (completing g (after fs (deeds_of es)) s serves (later es fs first facts))
 
 refusing : (g : Settings) (fs : List Deed) (s : ℕ) (fault : ReadFault) → IsServing g → Facts fs → IsCleanFault fault
-    → Clean (refused g fs s (fault_numeric fault))
+    → Clean (tells_fault g fs s (fault_numeric fault))
 refusing g fs s (UnknownCommand name) serves facts is =
     told_only g fs s (numeric.UnknownCommand name) serves facts (record { words = one name is; text = refl })
 refusing g fs s (NeedMoreParams command) serves facts is =

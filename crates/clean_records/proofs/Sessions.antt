@@ -14,8 +14,8 @@ use Rattle.casemapping.specs.Fold.{is_same}
 use Rattle.casemapping.specs.Names.{nick_shape}
 use Rattle.numerics.specs.declared.numeric.Numeric.TheVariants as numeric
 use Rattle.numerics.specs.CivilTime.{time_text}
-use Rattle.numerics.specs.Cut.{cut, most_tokens}
-use Rattle.numerics.specs.Numerics.{spaced}
+use Rattle.numerics.specs.Cut.{cut_lines, most_tokens}
+use Rattle.numerics.specs.Numerics.{names_text}
 use Rattle.numerics.specs.Support.{tokens}
 use Rattle.registration.specs.declared.accounts.Account.{Account}
 use Rattle.registration.specs.declared.caps.Cap.{Cap}
@@ -32,17 +32,17 @@ use Rattle.registration.specs.declared.enrol.UserAnswer.{UserAnswer}
 use Rattle.registration.specs.declared.enrol.UserAnswer.TheVariants.{AlreadyTold, Accepted}
 use Rattle.registration.specs.Accounts.{logged_in, name_by}
 use Rattle.registration.specs.Caps.{all_caps, is_on, list_of}
-use Rattle.registration.specs.Enrol.{Enrolment, account_by, added, cap_answer, ended_by, gone_on, holds, is_own}
+use Rattle.registration.specs.Enrol.{Enrolment, account_by, sasl_octets, cap_answer, ended_by, gone_on, holds, is_own}
 use Rattle.registration.specs.Enrol.{is_ready, is_too_long, nick_answer, sasl_answer, sasl_step, user_answer}
 use Rattle.registration.specs.Plain.{Credentials, credentials_of}
 use Rattle.registration.specs.Settings.{IsWellSet, is_motd, is_text}
 use Rattle.roster.specs.declared.deed.Deed.{Deed}
 use Rattle.roster.specs.declared.deed.Deed.TheVariants as deed
 use Rattle.roster.specs.LookBack.{after, caps, enrol, exchange, nick, registered}
-use Rattle.drafts.specs.declared.effect.Effect.TheVariants.{Establish, Answer}
-use Rattle.drafts.specs.Effects.{deeds_of}
-use Rattle.drafts.specs.Lines.{go_on_line, pong_line, prefix, title}
-use Rattle.drafts.specs.Replies.{tells, tells_all}
+use Rattle.transactions.specs.declared.effect.Effect.TheVariants.{Establish, Answer}
+use Rattle.transactions.specs.Effects.{deeds_of}
+use Rattle.transactions.specs.Lines.{go_on_line, pong_line, prefix, title}
+use Rattle.transactions.specs.Replies.{tells, tells_all}
 use Rattle.command_params.specs.Lists.{is_space}
 use Rattle.command_params.specs.Params.{first_or_empty}
 use Rattle.command_params.specs.declared.fault.ReadFault.{ReadFault}
@@ -53,12 +53,12 @@ use Rattle.session_commands.specs.declared.session.CapSubcommand.TheVariants.{Ls
 use Rattle.session_commands.specs.declared.session.SessionCommand.{SessionCommand}
 use Rattle.session_commands.specs.declared.session.SessionCommand.TheVariants as session
 use Rattle.session_commands.specs.Negotiation.{authenticates, cap_list, cap_text, closes, lists, negotiates}
-use Rattle.session_commands.specs.Negotiation.{requested, sasl_answered, waits}
-use Rattle.session_commands.specs.Registration.{aborts, completed, enrolls, is_held, nick_answered, passes}
+use Rattle.session_commands.specs.Negotiation.{answers_req, sasl_answered, waits}
+use Rattle.session_commands.specs.Registration.{aborts, if_ready, enrolls, is_held, nick_answered, passes}
 use Rattle.session_commands.specs.Registration.{registers, renames, shows_nick, takes_nick, user_answered}
 use Rattle.session_commands.specs.Session.{authenticate_command, cap_command, cap_req, cap_subcommand, is_user_octet}
 use Rattle.session_commands.specs.Session.{nick_command, pass_command, ping_command, serves_session}
-use Rattle.session_commands.specs.Session.{told, user_command, user_name}
+use Rattle.session_commands.specs.Session.{user_with, user_command, user_name}
 use Rattle.session_commands.specs.Welcome.{support_numerics, welcome_numerics}
 use Rattle.answer_octets.specs.Clean.{IsClean, IsMoment, IsWordOf}
 use Rattle.answer_octets.proofs.Blocks.{word-text}
@@ -70,7 +70,8 @@ use Rattle.clean_records.specs.Clean.{IsCleanEffect, IsNick, IsServing, IsText}
 use Rattle.clean_records.specs.Laws.{WelcomesAreClean}
 use Rattle.clean_records.proofs.Effects.{Clean, IsTextNumeric, clean-effects, either, facts-of, from-server}
 use Rattle.clean_records.proofs.Effects.{from-session}
-use Rattle.clean_records.proofs.Effects.{joined, later, more, none, only, told as tells-clean, told_all, told_only}
+use Rattle.clean_records.proofs.Effects.{joined, later, more, none, only, told as tells-clean, told_all}
+use Rattle.clean_records.proofs.Effects.{told_only}
 use Rattle.clean_records.proofs.Lists.{all-both, all-texts, cut-texts, find-is}
 use Rattle.clean_records.proofs.Lookups.{Facts, nick-shown, prefix-shown}
 use Rattle.clean_records.proofs.Asking.{IsCleanRead, first-text, present-parts}
@@ -97,12 +98,12 @@ waiting : (fs : List Deed) (s : ℕ) → Clean (waits fs s)
 waiting fs s = let d = Establish (deed.HoldSet s true) in either (holds (enrol fs s)) (d ∷ []) [] (only d tt) none
 
 requesting : (g : Settings) (fs : List Deed) (s : ℕ) (words : List (List ℕ)) (a : CapAnswer) → IsServing g → Facts fs
-    → AreTexts words → Clean (requested g fs s words a)
+    → AreTexts words → Clean (answers_req g fs s words a)
 requesting g fs s words (Acknowledged new) serves facts are = let d = Establish (deed.CapsSet s new) in
-    more (lists g fs s (codes "ACK") (spaced words)) (d ∷ [])
-    (listing g fs s (codes "ACK") (spaced words) serves facts refl (spaced-kept words are)) (only d tt)
-requesting g fs s words Refused serves facts are = only (lists g fs s (codes "NAK") (spaced words))
-    (listing g fs s (codes "NAK") (spaced words) serves facts refl (spaced-kept words are))
+    more (lists g fs s (codes "ACK") (names_text words)) (d ∷ [])
+    (listing g fs s (codes "ACK") (names_text words) serves facts refl (spaced-kept words are)) (only d tt)
+requesting g fs s words Refused serves facts are = only (lists g fs s (codes "NAK") (names_text words))
+    (listing g fs s (codes "NAK") (names_text words) serves facts refl (spaced-kept words are))
 
 abbrev pub IsCleanSub : CapSubcommand → Type 0
 IsCleanSub (Req words) = AreTexts words
@@ -117,7 +118,7 @@ negotiating g fs s ListCaps serves facts is = let list = cap_list false (list_of
     only (lists g fs s (codes "LIST") list) (listing g fs s (codes "LIST") list serves facts refl
     (cap_list-text false (list_of (caps fs s))))
 negotiating g fs s (Req words) serves facts is = let a = cap_answer (enrol fs s) words in
-    joined (requested g fs s words a) (waits fs s) (requesting g fs s words a serves facts is) (waiting fs s)
+    joined (answers_req g fs s words a) (waits fs s) (requesting g fs s words a serves facts is) (waiting fs s)
 negotiating g fs s End serves facts is = only (Establish (deed.HoldSet s false)) tt
 
 -- ---- AUTHENTICATE: who is logged in has an account's name
@@ -165,8 +166,8 @@ stepping : (accounts : List Account) (so_far : Option (List ℕ)) (piece : List 
 stepping accounts None piece named =
     cond_both (is_same piece (codes "PLAIN")) Opened UnknownMechanism IsCleanSasl (λ _. tt) (λ _. tt)
 stepping accounts (Some so_far) piece named =
-    cond_both (bytes_eq piece (42 ∷ [])) Aborted (gone_on accounts so_far (added piece)) IsCleanSasl (λ _. tt)
-    (λ _. going-on accounts so_far (added piece) named)
+    cond_both (bytes_eq piece (42 ∷ [])) Aborted (gone_on accounts so_far (sasl_octets piece)) IsCleanSasl (λ _. tt)
+    (λ _. going-on accounts so_far (sasl_octets piece) named)
 
 sasl-clean : (accounts : List Account) (e : Enrolment) (piece : List ℕ) → AllByRecursion IsNamed accounts
     → IsCleanSasl (sasl_answer accounts e piece)
@@ -307,7 +308,7 @@ user-word u = record {
   short = take-short 16 (filter is_user_octet u);
 }
 
-reads_user : (u real : List ℕ) → IsText real → IsReadSession (told u real)
+reads_user : (u real : List ℕ) → IsText real → IsReadSession (user_with u real)
 reads_user u real is =
     cond_both (is_empty (user_name u)) _ _ IsReadSession (λ _. tt)
     (λ _. (user-word u, take-kept is_text_octet 100 real is))
@@ -405,7 +406,7 @@ welcome-clean g source serves is =
           (
             record { words = and_from _ _ server (and_from _ _ version refl); text = tt },
             all-both (IsTextNumeric g) support_numerics (motd_numerics g.motd)
-                (support-lines g (cut 370 most_tokens tokens)
+                (support-lines g (cut_lines 370 most_tokens tokens)
                 (cut-texts 370 most_tokens tokens refl)) (motd-clean g g.motd serves serves.set.motd),
           ),
         ),
@@ -432,9 +433,9 @@ registering g fs s serves facts =
     joined es (enrolls g (after fs (deeds_of es)) s) stops
     (enrolling g (after fs (deeds_of es)) s serves (later es fs stops facts))
 
-pub completing : (g : Settings) (fs : List Deed) (s : ℕ) → IsServing g → Facts fs → Clean (completed g fs s)
+pub completing : (g : Settings) (fs : List Deed) (s : ℕ) → IsServing g → Facts fs → Clean (if_ready g fs s)
 completing g fs s serves facts = either (is_ready (enrol fs s)) (registers g fs s) []
     (registering g fs s serves facts) none
 
 pub welcomes : WelcomesAreClean
-welcomes g fs s serves are = clean-effects (completed g fs s) (completing g fs s serves (facts-of fs are))
+welcomes g fs s serves are = clean-effects (if_ready g fs s) (completing g fs s serves (facts-of fs are))

@@ -4,7 +4,7 @@ use Rattle.std.proofs.Common.{[], ◌∷◌, refl, sym, ap, ◌∙◌, arith, in
 use Rattle.std.specs.List.{list_all}
 use Rattle.std.proofs.lemmas.Bool.{and_parts, cond_both, eqb-true, leb-true}
 use Rattle.std.proofs.lemmas.List.{length-map}
-use Rattle.casemapping.specs.Fold.{fold_of, folded, is_same}
+use Rattle.casemapping.specs.Fold.{fold_of, name_fold, is_same}
 use Rattle.casemapping.specs.Names.{channel_octet, channel_shape}
 use Rattle.casemapping.proofs.SameNames.{is_same-true}
 use Rattle.clean_records.specs.Clean.{IsChannel}
@@ -52,11 +52,11 @@ first-same b = elim (folds b) [
   | inr high ↦ high-first (fold_of b) high.1 ∙ sym (high-first b high.0)
 ]
 
-octets-same : (bs : List ℕ) → list_all channel_octet (folded bs) ≡ list_all channel_octet bs
+octets-same : (bs : List ℕ) → list_all channel_octet (name_fold bs) ≡ list_all channel_octet bs
 octets-same [] = refl
 octets-same (b ∷ bs) = rw (octet-same b, octets-same bs) refl
 
-shape-same : (c : List ℕ) → channel_shape (folded c) ≡ channel_shape c
+shape-same : (c : List ℕ) → channel_shape (name_fold c) ≡ channel_shape c
 unfolding channel_shape
 shape-same [] = refl
 shape-same (b ∷ bs) = rw (first-same b, octets-same bs, length-map bs fold_of) refl

@@ -18,11 +18,11 @@ use Rattle.registration.specs.declared.settings.Settings.{Settings}
 use Rattle.registration.specs.Caps.{is_on}
 use Rattle.roster.specs.declared.deed.Deed.{Deed}
 use Rattle.roster.specs.declared.deed.Deed.TheVariants.{AwaySet}
-use Rattle.roster.specs.LookBack.{away, caps, found, name_of, nick, state}
-use Rattle.drafts.specs.declared.effect.Effect.TheVariants.{Establish, Answer, Show, Copy}
-use Rattle.drafts.specs.Hearers.{shown}
-use Rattle.drafts.specs.Lines.{away_line, prefix, title}
-use Rattle.drafts.specs.Replies.{tells}
+use Rattle.roster.specs.LookBack.{away, caps, user_named, name_of, nick, state}
+use Rattle.transactions.specs.declared.effect.Effect.TheVariants.{Establish, Answer, Show, Copy}
+use Rattle.transactions.specs.Hearers.{shows_to}
+use Rattle.transactions.specs.Lines.{away_line, prefix, title}
+use Rattle.transactions.specs.Replies.{tells}
 use Rattle.command_params.specs.declared.fault.ReadFault.{ReadFault}
 use Rattle.command_params.specs.Lists.{names_of}
 use Rattle.command_params.specs.Params.{first_or_empty}
@@ -30,9 +30,9 @@ use Rattle.talk_commands.specs.declared.talk.TalkCommand.{TalkCommand}
 use Rattle.talk_commands.specs.declared.talk.TalkCommand.TheVariants as talk
 use Rattle.talk_commands.specs.declared.verb.Verb.{Verb}
 use Rattle.talk_commands.specs.declared.verb.Verb.TheVariants as verb
-use Rattle.talk_commands.specs.Away.{away_answer, goes_away, kept, notified}
+use Rattle.talk_commands.specs.Away.{away_answer, goes_away, new_away, away_hearers}
 use Rattle.talk_commands.specs.Lines.{Sent, sent_line, verb_text}
-use Rattle.talk_commands.specs.Talk.{notice_command, privmsg_command, relayed, second_or_empty, serves_talk}
+use Rattle.talk_commands.specs.Talk.{notice_command, privmsg_command, client_tags, second_or_empty, serves_talk}
 use Rattle.talk_commands.specs.Talk.{tagmsg_command}
 use Rattle.talk_commands.specs.Talking.{answers, delivers, echoes, keeps, may_speak, names_channel, reaches, sends}
 use Rattle.talk_commands.specs.Talking.{tells_away, to_channel, to_one, to_open, to_user}
@@ -146,10 +146,10 @@ to_a_target : (g : Settings) (fs : List Deed) (s : ℕ) (b : Sent) → IsServing
     → (target : List ℕ) → IsText target → Clean (to_one g fs s b target)
 to_a_target g fs s b serves facts sent target text =
     either (names_channel target) (to_channel g fs s b target (name_of fs target))
-    (to_user g fs s b target (found fs target))
+    (to_user g fs s b target (user_named fs target))
     (to_a_channel g fs s b target (name_of fs target) serves facts sent text (named-text (name_of fs target)
     (name_of-is fs target facts)))
-    (to_a_user g fs s b target (found fs target) serves facts sent text)
+    (to_a_user g fs s b target (user_named fs target) serves facts sent text)
 
 place-text : (ts : List (List ℕ)) (n : ℕ) → AllByRecursion IsText ts → IsText (slice_index_or ts n [])
 place-text [] n are = refl
@@ -174,7 +174,7 @@ change-clean fs s None facts is = from-session fs s (codes "AWAY") [] false fact
 change-clean fs s (Some text) facts is = from-session fs s (codes "AWAY") (text ∷ []) true facts refl (omega arith)
     (one text is)
 
-kept-text : (text : List ℕ) → IsText text → IfSome (kept text) IsText
+kept-text : (text : List ℕ) → IsText text → IfSome (new_away text) IsText
 kept-text text is = cond_both (length text == 0) None _ (λ o. IfSome o IsText) (λ _. tt)
     (λ _. take-kept is_text_octet 200 text is)
 
@@ -185,12 +185,13 @@ answer-text g (Some text) = record { words = refl; text = refl }
 going_away : (g : Settings) (fs : List Deed) (s : ℕ) (text : List ℕ) → IsServing g → Facts fs → IsText text
     → Clean (goes_away g fs s text)
 going_away g fs s text serves facts is =
-    let now = kept text in
+    let now = new_away text in
     let answer = tells g fs s (away_answer now) in
-    let news = shown (notified fs s now) (away_line (prefix fs s) now) in
+    let news = shows_to (away_hearers fs s now) (away_line (prefix fs s) now) in
     more (Establish (AwaySet s now)) (answer ∷ news) (kept-text text is)
     (more answer news (told g fs s (away_answer now) serves facts (answer-text g now))
-    (some_shown (notified fs s now) (away_line (prefix fs s) now) (change-clean fs s now facts (kept-text text is))))
+    (some_shown (away_hearers fs s now) (away_line (prefix fs s) now)
+    (change-clean fs s now facts (kept-text text is))))
 
 -- ---- what is read
 
@@ -212,7 +213,7 @@ word-no_nul (b ∷ bs) words =
     let parts = and_parts _ _ words in
     and_from _ _ (and_parts _ _ (and_parts _ _ parts.0).1).0 (word-no_nul bs parts.1)
 
-relayed-is : (tags : List ℕ) → list_all is_word_octet tags ≡ true → IsRelayed (relayed tags)
+relayed-is : (tags : List ℕ) → list_all is_word_octet tags ≡ true → IsRelayed (client_tags tags)
 relayed-is tags words = relayed-clients tags (word-no_nul tags words)
 
 second-text : (ps : List (List ℕ)) → AreTexts ps → IsText (second_or_empty ps)
@@ -220,7 +221,7 @@ second-text [] are = refl
 second-text (p ∷ ps) are = first-text ps (and_parts _ _ are).1
 
 sent-read : (tags : List ℕ) (ps : List (List ℕ)) → list_all is_word_octet tags ≡ true → AreTexts ps
-    → IsCleanTalk (names_of (first_or_empty ps)) (Some (second_or_empty ps)) (relayed tags)
+    → IsCleanTalk (names_of (first_or_empty ps)) (Some (second_or_empty ps)) (client_tags tags)
 sent-read tags ps words are = record {
   targets = names-texts (first_or_empty ps) (first-text ps are);
   text = second-text ps are;

@@ -14,9 +14,9 @@ use Rattle.registration.specs.Settings.{IsWellSet}
 pub use Rattle.registration.specs.Accounts.{AreNamed}
 use Rattle.roster.specs.declared.deed.Deed.{Deed}
 use Rattle.roster.specs.declared.deed.Deed.TheVariants as deed
-use Rattle.drafts.specs.declared.effect.Effect.{Effect}
-use Rattle.drafts.specs.declared.effect.Effect.TheVariants.{Establish, Answer, Show, Copy}
-use Rattle.drafts.specs.Effects.{copies, due, reply}
+use Rattle.transactions.specs.declared.effect.Effect.{Effect}
+use Rattle.transactions.specs.declared.effect.Effect.TheVariants.{Establish, Answer, Show, Copy}
+use Rattle.transactions.specs.Effects.{copies, due, reply}
 use Rattle.answer_octets.specs.Clean.{IsClean, IsWordOf, is_one_line}
 
 -- no NUL, CR or LF

@@ -8,9 +8,9 @@ use Rattle.chronicle.specs.History.{Rec, actor}
 use Rattle.registration.specs.declared.settings.Settings.{Settings}
 use Rattle.roster.specs.declared.deed.Deed.{Deed}
 use Rattle.roster.specs.LookBack.{caps}
-use Rattle.drafts.specs.Effects.{copies, reply}
+use Rattle.transactions.specs.Effects.{copies, reply}
 use Rattle.session_commands.specs.declared.session.SessionCommand.{SessionCommand}
-use Rattle.session_commands.specs.Registration.{completed}
+use Rattle.session_commands.specs.Registration.{if_ready}
 use Rattle.session_commands.specs.Session.{serves_session}
 use Rattle.channel_commands.specs.declared.channel.ChannelCommand.{ChannelCommand}
 use Rattle.channel_commands.specs.Channel.{serves_channel}
@@ -45,7 +45,7 @@ SessionCommandsAreClean = (g : Settings) (fs : List Deed) (s : ℕ) (k : Session
 -- and the welcome that follows where a session is complete
 abbrev pub WelcomesAreClean : Type 0
 WelcomesAreClean = (g : Settings) (fs : List Deed) (s : ℕ) → IsServing g → AreClean fs
-    → AreCleanEffects (completed g fs s)
+    → AreCleanEffects (if_ready g fs s)
 
 abbrev pub TalkCommandsAreClean : Type 0
 TalkCommandsAreClean = (g : Settings) (fs : List Deed) (s : ℕ) (k : TalkCommand) (m : Message) → IsServing g
@@ -80,7 +80,7 @@ abbrev pub LinesAreClean : Type 0
 LinesAreClean = (g : Settings) (h : List Rec) (k : Kind) → IsServing g → IsCleanHistory h → IsCleanKind k
     → AreCleanLines (effects g (facts g h) k)
 
--- what a tick asks a session that is quiet
+-- what a tick asks a session that is idle
 abbrev pub PingIsClean : Type 0
 PingIsClean = (g : Settings) → IsServing g → IsClean (ping_line g.server)
 

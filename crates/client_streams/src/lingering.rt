@@ -1,5 +1,5 @@
 //! Streams whose sessions are over, and whose clients haven't closed them yet.
-use crate::crowd::Crowd;
+use crate::semaphore::Semaphore;
 use crate::web::Web;
 use mio::net::TcpStream;
 use std::alloc::Global;
@@ -90,7 +90,13 @@ impl<R: Wait + Copy + Drop> Lingerers<R> {
     /// Ends what is written to a stream, of whose time so many pauses are over, once its WebSocket has written what
     /// waits, and has it wait for its client's end. Where more than may wait at all workers do then, the oldest of
     /// this one is closed; where there is no memory for it, it is closed itself.
-    pub fn add(&mut self, stream: Arc<TcpStream>, web: Option<Web<R>>, tries: u32, all: &Crowd) {
+    pub fn add(
+        &mut self,
+        stream: Arc<TcpStream>,
+        web: Option<Web<R>>,
+        tries: u32,
+        all: &Semaphore,
+    ) {
         let mut one = Lingering {
             stream,
             web,
@@ -98,24 +104,24 @@ impl<R: Wait + Copy + Drop> Lingerers<R> {
             tries,
         };
         one.write_on();
-        if all.enter() {
+        if all.try_acquire() {
             self.drop_oldest(all);
         }
         if self.streams.push_back(one).is_err() {
-            all.leave();
+            all.release();
         }
     }
 
     /// Closes the oldest, where there is one.
-    fn drop_oldest(&mut self, all: &Crowd) {
+    fn drop_oldest(&mut self, all: &Semaphore) {
         if let Some(oldest) = self.streams.pop_front() {
             drop(oldest);
-            all.leave();
+            all.release();
         }
     }
 
     /// After a pause: writes what waits for each and reads what came of it, and closes those whose time is over.
-    pub fn look(&mut self, all: &Crowd) {
+    pub fn look(&mut self, all: &Semaphore) {
         let mut room = [0u8; ROOM];
         for _ in 0..self.streams.len() {
             let Some(mut one) = self.streams.pop_front() else {
@@ -127,7 +133,7 @@ impl<R: Wait + Copy + Drop> Lingerers<R> {
             one.tries = one.tries.saturating_add(1);
             let goes_on = one.tries < LINGER_TRIES && one.goes_on(&mut room);
             if !goes_on || self.streams.push_back(one).is_err() {
-                all.leave();
+                all.release();
             }
         }
     }

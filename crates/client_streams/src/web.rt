@@ -6,7 +6,7 @@
 //! turn again. Of messages without a payload, such as pings, 64 are read in a turn.
 ghost use Rattle.std.specs.Prelude.{◌≡◌, ◌≤◌, [], length, IfOk, OnOk};
 
-use crate::frames::Frames;
+use crate::frame_places::Frames;
 use deliveries::Item;
 use http::Uri;
 use http::uri::UriError;
@@ -115,7 +115,7 @@ impl WebStream {
 
     /// Whether more may be there than the first so many messages, of which no event tells.
     fn has_more(&self, messages: u64) -> bool {
-        self.is_full || self.is_turn_over() || messages < self.frames.ended()
+        self.is_full || self.is_turn_over() || messages < self.frames.ended_count()
     }
 
     /// Reads of the request.
@@ -193,7 +193,7 @@ fn error_of(fault: FrontFault) -> Error {
 
 /// What was read of a client.
 #[derive(Drop)]
-struct Message {
+struct WebMessage {
     /// The message: nothing where it has no payload.
     got: Result<Option<Got>, FrontFault>,
     /// Whether more may be there, of which no event tells.
@@ -206,7 +206,7 @@ struct Message {
 
 /// A front as threads share it.
 #[derive(Drop)]
-struct Shared {
+struct SharedFront {
     front: Mutex<Front<WebStream>>,
     // Somebody found it held, and wants to write.
     is_wanted: AtomicBool,
@@ -217,13 +217,13 @@ struct Shared {
 #[derive(Drop)]
 pub struct Web<R: Wait + Copy + Drop> {
     rt: R,
-    shared: Arc<Shared>,
+    shared: Arc<SharedFront>,
 }
 
 impl<R: Wait + Copy + Drop> Web<R> {
     /// A WebSocket that threads may share.
     pub fn new(rt: R, alloc: Global, front: Front<WebStream>) -> Option<Web<R>> {
-        let shared = Shared {
+        let shared = SharedFront {
             front: Mutex::new(front),
             is_wanted: AtomicBool::new(false),
         };
@@ -286,13 +286,13 @@ impl<R: Wait + Copy + Drop> Web<R> {
     }
 
     /// The message after the first so many, in a turn that goes on or begins now.
-    fn read_message(&self, messages: u64, begins: bool) -> Message {
+    fn read_message(&self, messages: u64, begins: bool) -> WebMessage {
         let mut front = self.shared.front.lock(&self.rt);
         if begins {
             front.stream().begin_turn();
         }
         let got = front.read_message();
-        Message {
+        WebMessage {
             got,
             has_more: front.stream().has_more(messages.saturating_add(1)),
             is_turn_over: front.stream().is_turn_over(),

@@ -8,7 +8,7 @@ use Rattle.std.proofs.lemmas.List.Folds.{list_any-append}
 use Rattle.line_grammar.specs.Parts.{is_empty, is_present, parts, parts_left}
 use Rattle.casemapping.specs.Fold.{is_same}
 use Rattle.casemapping.proofs.SameNames.{is_same-left}
-use Rattle.command_params.specs.Lists.{distinct, paired, names_of, words_of, targets_of}
+use Rattle.command_params.specs.Lists.{distinct, with_keys, names_of, words_of, targets_of}
 use Rattle.command_params.specs.ListSteps.{with_one, with_name, with_word, with_target}
 use Rattle.command_params.specs.declared.join_targets.JoinTarget.{JoinTarget}
 
@@ -114,8 +114,8 @@ words_end list words None is e = e ∙ read_words_whole [] (parts 32 list)
 words_end list words (Some rest) is e = cc
 
 pub targets_end : (channels keys : List ℕ) (targets : List JoinTarget) (rest keys_left : Option (Bor (List ℕ)))
-    → rest ≡ None → fold with_target targets (paired (parts_left 44 rest) (parts_left 44 keys_left))
-    ≡ fold with_target [] (paired (parts 44 channels) (parts 44 keys)) → targets ≡ targets_of channels keys
+    → rest ≡ None → fold with_target targets (with_keys (parts_left 44 rest) (parts_left 44 keys_left))
+    ≡ fold with_target [] (with_keys (parts 44 channels) (parts 44 keys)) → targets ≡ targets_of channels keys
 targets_end channels keys targets None keys_left is e = e ∙ read_whole
-    (λ target. target.channel) (paired (parts 44 channels) (parts 44 keys))
+    (λ target. target.channel) (with_keys (parts 44 channels) (parts 44 keys))
 targets_end channels keys targets (Some rest) keys_left is e = cc

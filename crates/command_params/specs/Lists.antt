@@ -28,16 +28,16 @@ list_given [] = None
 list_given (list ∷ ps) = Some (names_of list)
 
 -- each channel with the key at its place; where the keys end, with none
-abbrev pub paired : List (List ℕ) → List (List ℕ) → List JoinTarget
-paired [] keys = []
-paired (channel ∷ channels) [] = record { channel = channel; key = [] } ∷ paired channels []
-paired (channel ∷ channels) (key ∷ keys) = record { channel = channel; key = key } ∷ paired channels keys
+abbrev pub with_keys : List (List ℕ) → List (List ℕ) → List JoinTarget
+with_keys [] keys = []
+with_keys (channel ∷ channels) [] = record { channel = channel; key = [] } ∷ with_keys channels []
+with_keys (channel ∷ channels) (key ∷ keys) = record { channel = channel; key = key } ∷ with_keys channels keys
 
 -- the channels to join, with their keys: the places in both lists are counted before any name is left out
 abbrev pub targets_of : List ℕ → List ℕ → List JoinTarget
 targets_of channels keys =
     distinct (λ target. target.channel) (filter (λ target. is_present target.channel)
-    (paired (slice_split is_comma channels) (slice_split is_comma keys)))
+    (with_keys (slice_split is_comma channels) (slice_split is_comma keys)))
 
 -- the words between spaces
 abbrev pub words_of : List ℕ → List (List ℕ)

@@ -36,9 +36,9 @@ all_names = name.Quit ∷ name.Ping ∷ name.Pong ∷ name.Privmsg ∷ name.Noti
     ∷ name.Motd ∷ name.Cap ∷ name.Authenticate ∷ name.Pass ∷ name.Nick ∷ name.User ∷ []
 
 -- the command of a name, which is taken in either case
-unfoldable pub named : List ℕ → Option CommandName
-named n = find (λ known. str_eq_ignore_ascii_case n (name_text known)) all_names
+unfoldable pub known_name : List ℕ → Option CommandName
+known_name n = find (λ known. str_eq_ignore_ascii_case n (name_text known)) all_names
 
 -- none is left out, and no two have one name
 abbrev pub EachNameIsRead : Type 0
-EachNameIsRead = (c : CommandName) → named (name_text c) ≡ Some c
+EachNameIsRead = (c : CommandName) → known_name (name_text c) ≡ Some c

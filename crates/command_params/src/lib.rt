@@ -12,4 +12,4 @@ pub use fault::{ReadFault, needs_more};
 pub use join_targets::{JoinTarget, JoinTargets};
 pub use lists::{read_list_given, read_names, read_targets, read_words};
 pub use name::{CommandName, each_name_is_read, is_named};
-pub use params::{copied, copied_first, first, into_first};
+pub use params::{copy_first, copy_of, first, into_first};

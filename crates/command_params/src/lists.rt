@@ -41,7 +41,7 @@ fn add_name(names: &mut Vec<Octets>, alloc: Global, name: &[u8]) -> Result<(), A
     ensures { OnOk result (names.new.items ≡ with_name names.old.items name.now) }
 {
     if !name.is_empty() && !is_among(names, name) {
-        names.push(Octets::copied(alloc, name)?)?;
+        names.push(Octets::copy_of(alloc, name)?)?;
     }
     Ok(())
 }
@@ -50,7 +50,7 @@ fn add_word(words: &mut Vec<Octets>, alloc: Global, word: &[u8]) -> Result<(), A
     ensures { OnOk result (words.new.items ≡ with_word words.old.items word.now) }
 {
     if !word.is_empty() {
-        words.push(Octets::copied(alloc, word)?)?;
+        words.push(Octets::copy_of(alloc, word)?)?;
     }
     Ok(())
 }
@@ -65,8 +65,8 @@ fn add_target(
         ≡ with_target targets.old.items (record { channel = channel.now; key = key.now })) }
 {
     if !channel.is_empty() && !is_target(targets, channel) {
-        let channel = Octets::copied(alloc, channel)?;
-        let key = Octets::copied(alloc, key)?;
+        let channel = Octets::copy_of(alloc, channel)?;
+        let key = Octets::copy_of(alloc, key)?;
         targets.push(JoinTarget { channel, key })?;
     }
     Ok(())

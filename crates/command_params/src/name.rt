@@ -1,7 +1,7 @@
 //! The commands that are served, and their names (RFC 2812, section 2.3.1), which are taken in either case.
 ghost use Rattle.std.specs.Prelude.{◌≡◌};
 ghost use Rattle.std.specs.Str.{str_eq_ignore_ascii_case};
-ghost use Rattle.command_params.specs.Names.{EachNameIsRead, name_text, named};
+ghost use Rattle.command_params.specs.Names.{EachNameIsRead, name_text, known_name};
 
 /// A command that is served.
 #[derive(Clone, Copy)]
@@ -60,9 +60,9 @@ const ALL: [CommandName; 23] = [
 
 impl CommandName {
     /// The command of a name, in either case. `None` where none is served by it.
-    #[tactic(auto, unfolding(crate::specs::Names::named))]
+    #[tactic(auto, unfolding(crate::specs::Names::known_name))]
     pub fn read(name: &[u8]) -> Option<CommandName>
-        ensures { result ≡ named name.now }
+        ensures { result ≡ known_name name.now }
     {
         ALL.iter()
             .copied()

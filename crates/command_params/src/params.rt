@@ -26,26 +26,23 @@ pub fn into_first(alloc: Global, message: LineMessage<'_>) -> Octets
 }
 
 /// A copy of the first parameter, where there is one.
-pub fn copied_first(
-    alloc: Global,
-    params: &LineParameters<'_>,
-) -> Result<Option<Octets>, AllocError>
+pub fn copy_first(alloc: Global, params: &LineParameters<'_>) -> Result<Option<Octets>, AllocError>
     ensures { IfOk result (λ o. o ≡ first_or_none params.now) }
 {
     match params.split_first() {
-        Some((first, _)) => Ok(Some(Octets::copied(alloc, first)?)),
+        Some((first, _)) => Ok(Some(Octets::copy_of(alloc, first)?)),
         None => Ok(None),
     }
 }
 
 /// A copy of the parameters.
-pub fn copied(alloc: Global, params: &LineParameters<'_>) -> Result<OctetsList, AllocError>
+pub fn copy_of(alloc: Global, params: &LineParameters<'_>) -> Result<OctetsList, AllocError>
     ensures { IfOk result (λ texts. texts ≡ params.now) }
 {
     let mut texts = Vec::new(alloc);
     let mut rest = params.split_first();
     while let Some((param, more)) = rest {
-        texts.push(Octets::copied(alloc, param)?)?;
+        texts.push(Octets::copy_of(alloc, param)?)?;
         rest = more.split_first();
     }
     Ok(OctetsList::from_vec(texts))

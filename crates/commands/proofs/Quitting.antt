@@ -12,7 +12,7 @@ use Rattle.chronicle.specs.History.{asks_to_quit, is_quit}
 use Rattle.command_params.specs.declared.name.CommandName.{CommandName}
 use Rattle.command_params.specs.declared.name.CommandName.TheVariants as name
 use Rattle.command_params.specs.declared.fault.ReadFault.{ReadFault}
-use Rattle.command_params.specs.Names.{all_names, name_text, named}
+use Rattle.command_params.specs.Names.{all_names, name_text, known_name}
 use Rattle.commands.specs.declared.command.Command.{Command}
 use Rattle.commands.specs.declared.command.Command.TheVariants as topic
 use Rattle.session_commands.specs.declared.session.SessionCommand.{SessionCommand}
@@ -109,7 +109,7 @@ found_first p m names e =
     elim (cases_Bool (p name.Quit)) [ inl is ↦ rw is refl | inr isnt ↦ rw isnt (none_found p m names e) ]
 
 quit_read : (m : Message) → is_quit_read (command_of m) ≡ str_eq_ignore_ascii_case m.command (codes "QUIT")
-unfolding command_of named
+unfolding command_of known_name
 quit_read m = found_first (λ known. str_eq_ignore_ascii_case m.command (name_text known)) m (drop 1 all_names) refl
 
 of_message : (m : Option Message) → asks_for_quit (asked_by m) ≡ asks_to_quit m

@@ -6,7 +6,7 @@ use Rattle.command_params.specs.declared.name.CommandName.{CommandName}
 use Rattle.command_params.specs.declared.name.CommandName.TheVariants as name
 use Rattle.command_params.specs.declared.fault.ReadFault.{ReadFault}
 use Rattle.command_params.specs.declared.fault.ReadFault.TheVariants.{UnknownCommand}
-use Rattle.command_params.specs.Names.{named}
+use Rattle.command_params.specs.Names.{known_name}
 use Rattle.commands.specs.declared.command.Command.{Command}
 use Rattle.commands.specs.declared.command.Command.TheVariants.{Session, Channel, Mode, Talk, Query}
 use Rattle.session_commands.specs.Session.{authenticate_command, cap_command, nick_command, pass_command, ping_command}
@@ -56,4 +56,4 @@ by_name None m = Err (UnknownCommand m.command)
 by_name (Some c) m = command_by c m
 
 unfoldable pub command_of : Message → Result Command ReadFault
-command_of m = by_name (named m.command) m
+command_of m = by_name (known_name m.command) m

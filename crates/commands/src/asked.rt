@@ -61,7 +61,7 @@ pub struct ReadPiece {
 }
 
 /// What has no label.
-fn unlabelled(asked: Asked) -> ReadPiece
+fn without_label(asked: Asked) -> ReadPiece
     ensures asked { result.asked ≡ asked }
     ensures label { result.label ≡ None }
 {
@@ -81,7 +81,7 @@ fn read_line(alloc: Global, line: &[u8]) -> Result<ReadPiece, AllocError>
             Ok(ReadPiece { asked, label })
         }
         Err(LineFault::Memory) => Err(AllocError),
-        Err(LineFault::HasNul | LineFault::NoCommand) => Ok(unlabelled(Asked::Nothing)),
+        Err(LineFault::HasNul | LineFault::NoCommand) => Ok(without_label(Asked::Nothing)),
     }
 }
 
@@ -96,7 +96,7 @@ pub fn read_piece(alloc: Global, piece: &Piece) -> Result<ReadPiece, AllocError>
     ensures memory { IsErr result → IsSome (message_of piece.now) }
 {
     match piece {
-        Piece::TooLong => Ok(unlabelled(Asked::TooLong)),
+        Piece::TooLong => Ok(without_label(Asked::TooLong)),
         Piece::Line(line) => read_line(alloc, line.as_slice()),
     }
 }

@@ -7,7 +7,7 @@ ghost use Rattle.std.specs.Prelude.{◌<◌, ◌≤◌};
 
 use chronicle::{Moment, SessionId};
 use crossbeam_channel::{Receiver, Sender, bounded};
-use session_io::hall::Told;
+use session_io::book::FlushList;
 use session_io::{Clock, Gate, Host, Sockets};
 use std::alloc::{AllocError, Global};
 use std::cell::Cell;
@@ -97,16 +97,16 @@ impl<R: Wait, H: Host> Sockets for AtDesk<'_, R, H> {
         self.host.is_shut(session)
     }
 
-    fn tell(&self, told: &Told) {
-        self.host.tell(told);
+    fn flush(&self, flushes: &FlushList) {
+        self.host.flush(flushes);
     }
 
     fn pause(&self) {
         self.host.pause();
     }
 
-    fn rolled(&self, dropped: usize) {
-        self.host.rolled(dropped);
+    fn note_roll(&self, dropped: usize) {
+        self.host.note_roll(dropped);
     }
 
     fn stop(&self) {

@@ -14,6 +14,6 @@ pub use backlog::NoBacklog;
 pub use desk::Desk;
 pub use reading::read_on;
 pub use session_io;
-pub use session_io::{Clock, Gate, Host, Server, Sockets, close_up, hall, wire};
+pub use session_io::{Clock, Gate, Host, Server, Sockets, book, close_up, wire};
 pub use working::{Back, Job, Worked, work, work_one};
 pub use writing::write_on;

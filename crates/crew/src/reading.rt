@@ -6,9 +6,9 @@ use crate::backlog::NoBacklog;
 use crate::desk::{AtDesk, Desk};
 use crate::working::Worked;
 use chronicle::Why;
-use session_io::hall::outbox::Sender;
-use session_io::hall::{Baton, Naming, Told};
-use session_io::{Host, Intake, Next, Server, Sockets, hang, read_some, tell};
+use session_io::book::outbox::Sender;
+use session_io::book::{Baton, FlushList, Naming};
+use session_io::{Host, Next, ReceiveBuffer, Server, Sockets, flush, hang, read_some};
 use std::alloc::Global;
 use std::cell::Cell;
 use std::io::Read;
@@ -29,22 +29,22 @@ fn read_lines<L: Naming, I: Read, R: Wait + Drop, H: Host>(
     server: &Server<'_, L, R, H>,
     baton: &mut Baton<L, Sender<R>>,
     input: &mut I,
-    told: &mut Told,
+    flushes: &mut FlushList,
 ) -> (bool, Why)
     ensures lines { DoesLines (I.remaining input.old)
         (I.remaining input.new) baton.old.pieces baton.new.pieces result.0 }
     ensures session { baton.new.session ≡ baton.old.session }
 {
     let session = baton.session();
-    let Ok(mut intake) = Intake::new(alloc) else {
+    let Ok(mut intake) = ReceiveBuffer::new(alloc) else {
         return (false, Why::Memory);
     };
     for _ in rt.forever() {
         if server.host.is_shut(session) {
             break;
         }
-        let took = read_some(rt, server, &mut intake, baton, &NoBacklog, input, told);
-        tell(server, told);
+        let took = read_some(rt, server, &mut intake, baton, &NoBacklog, input, flushes);
+        flush(server, flushes);
         rest_after(server.host, took.next);
         match took.next {
             Next::Over(why) => return (took.all, why),
@@ -74,7 +74,7 @@ pub fn read_on<'a, L: Naming, I: Read, R: Wait + Drop, H: Host>(
 {
     let mut baton = baton;
     let session = baton.session();
-    let mut told = Told::new(alloc);
+    let mut flushes = FlushList::new(alloc);
     let host = AtDesk {
         rt,
         host: server.host,
@@ -86,8 +86,8 @@ pub fn read_on<'a, L: Naming, I: Read, R: Wait + Drop, H: Host>(
         host: &host,
         burst: server.burst,
     };
-    let (all, why) = read_lines(rt, alloc, &seated, &mut baton, input, &mut told);
-    let _ = hang(rt, server, session, why, &mut told);
-    tell(server, &mut told);
+    let (all, why) = read_lines(rt, alloc, &seated, &mut baton, input, &mut flushes);
+    let _ = hang(rt, server, session, why, &mut flushes);
+    flush(server, &mut flushes);
     Worked { baton, all }
 }

@@ -1,14 +1,14 @@
 //! Doing lines under a slot.
 ghost use Rattle.std.specs.Prelude.{◌≡◌, ◌++◌, ◌∷◌, [], true, IfOk, OnOk, OnErr};
-ghost use Rattle.session_io.specs.Doing.{TellsOf, IsNewestSeenTo, DoesFront};
+ghost use Rattle.session_io.specs.Doing.{TellsOfNewest, IsNewestSeenTo, DoesFront};
 ghost use Rattle.session_io.specs.Timing.{IsAt};
 
 use crate::backlog::NoBacklog;
 use crate::desk::{AtDesk, Desk};
 use chronicle::Moment;
 use line_grammar::Piece;
-use session_io::hall::outbox::Sender;
-use session_io::hall::{Baton, Done, Hall, LineRefusal, Naming, ReadLine, Told};
+use session_io::book::outbox::Sender;
+use session_io::book::{Baton, Done, FlushList, Hall, LineRefusal, Naming, ReadLine};
 use session_io::{Gate, Host, Server, Until, do_lines, line_at, lock_soon};
 use std::cell::Cell;
 use std::sync::{Mutex, Wait};
@@ -35,7 +35,7 @@ pub struct Worked<L: Naming, R: Wait + Drop> {
 }
 
 /// Does a line, at this moment or at that of the newest record where that is later. Where the journal has no room
-/// for it, that is rolled first. It adds to `told` who got something, for whom what waits is still to be written.
+/// for it, that is rolled first. It adds to `flushes` who got something, for whom what waits is still to be written.
 ///
 /// Where the line was done, its piece is the newest of those done with the baton that comes back. Where it was
 /// refused, the baton is the one that was given, unchanged. What is told of a line that was done, and its moment, is
@@ -46,17 +46,18 @@ pub fn work_one<L: Naming, R: Wait + Drop, G: Gate>(
     job: Job<L, R>,
     moment: Moment,
     gate: &G,
-    told: &mut Told,
+    flushes: &mut FlushList,
 ) -> Back<L, R>
     ensures done { OnOk result.outcome (result.baton.pieces ≡ job.baton.pieces ++ job.piece ∷ []) }
     ensures refused { OnErr result.outcome (result.baton ≡ job.baton) }
     ensures session { result.baton.session ≡ job.baton.session }
-    ensures told { IfOk result.outcome (λ d. TellsOf d result.baton.front result.baton.session) }
+    ensures told { IfOk result.outcome
+        (λ d. TellsOfNewest d result.baton.front result.baton.session) }
     ensures moment { OnOk result.outcome (IsAt moment result.baton.front) }
 {
     let Job { mut baton, piece } = job;
     let session = baton.session();
-    let Ok(mut line) = ReadLine::read(told.allocator(), &piece) else {
+    let Ok(mut line) = ReadLine::read(flushes.allocator(), &piece) else {
         return Back {
             baton,
             outcome: Err(LineRefusal::Memory),
@@ -69,7 +70,7 @@ pub fn work_one<L: Naming, R: Wait + Drop, G: Gate>(
         &mut baton,
         &mut line,
         moment,
-        told,
+        flushes,
         &mut dropped,
     );
     gate.leave(session);
@@ -78,9 +79,10 @@ pub fn work_one<L: Naming, R: Wait + Drop, G: Gate>(
 
 /// Does pieces of a session in turn, until one is refused, under one slot and one hold of the lock but where somebody
 /// is to be shut or many are to be told, which is done with both given back. Who got something and wasn't told stands
-/// in `told` at the end, with those who stood there before, for the caller to tell them (`tell`) when it has no more
-/// lines to do. Where there is no room for a record the journal is rolled; where there is none after that, the session
-/// is ended with Shutdown, and the server is asked to stop. Where memory is wanting it is ended with that reason.
+/// in `flushes` at the end, with those who stood there before, for the caller to tell them (`flush`) when it has no
+/// more lines to do. Where there is no room for a record the journal is rolled; where there is none after that, the
+/// session is ended with Shutdown, and the server is asked to stop. Where memory is wanting it is ended with that
+/// reason.
 ///
 /// The pieces done with the baton that comes back are those done before, then the first of these pieces, in order;
 /// all of them where `all` is true. The newest line that was done was done at a moment that the clock showed, or at
@@ -91,7 +93,7 @@ pub fn work<'a, L: Naming, R: Wait + Drop, H: Host>(
     desk: &'a Desk,
     baton: Baton<L, Sender<R>>,
     pieces: &[Piece],
-    told: &mut Told,
+    flushes: &mut FlushList,
 ) -> Worked<L, R>
     ensures front { DoesFront baton.pieces result.baton.pieces pieces.now }
     ensures whole { result.all ≡ true → result.baton.pieces ≡ baton.pieces ++ pieces.now }
@@ -111,7 +113,7 @@ pub fn work<'a, L: Naming, R: Wait + Drop, H: Host>(
         host: &host,
         burst: server.burst,
     };
-    let count = do_lines(rt, &seated, &NoBacklog, &mut baton, pieces, told);
+    let count = do_lines(rt, &seated, &NoBacklog, &mut baton, pieces, flushes);
     Worked {
         baton,
         all: count.until == Until::Done,

@@ -3,9 +3,9 @@ ghost use Rattle.crew.specs.Writing.{IsOver};
 ghost use Rattle.session_io.specs.Wired.{IsSameWire};
 
 use chronicle::Why;
-use session_io::hall::{Naming, Told};
+use session_io::book::{FlushList, Naming};
 use session_io::wire::{Flow, Sink, Wire};
-use session_io::{Host, Server, hang, tell};
+use session_io::{Host, Server, flush, hang};
 use std::alloc::Global;
 use std::sync::Wait;
 use std::time::Duration;
@@ -49,9 +49,9 @@ pub fn write_on<L: Naming, W: Sink + Drop, R: Wait + Drop, H: Host>(
                 server.host.pause();
             }
             Err(_) => {
-                let mut told = Told::new(alloc);
-                let _ = hang(rt, server, session, Why::WriteFailed, &mut told);
-                tell(server, &mut told);
+                let mut flushes = FlushList::new(alloc);
+                let _ = hang(rt, server, session, Why::WriteFailed, &mut flushes);
+                flush(server, &mut flushes);
                 return wire;
             }
         }

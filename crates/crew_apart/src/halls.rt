@@ -3,11 +3,11 @@ ghost use Rattle.std.specs.Prelude.{◌≡◌, OnOk};
 ghost use Rattle.chronicle.specs.History.{accepted};
 
 use chronicle::Moment;
-use crew::hall::{Baton, Hall, Lasting, LineRefusal, Naming};
+use crew::book::{Baton, Hall, LineRefusal, Naming, StableName};
 use line_grammar::Piece;
 
 /// Has a line accepted in the hall whose token the baton is, beside another.
-pub fn line_apart<L: Naming, M: Naming, O: Lasting>(
+pub fn line_apart<L: Naming, M: Naming, O: StableName>(
     hall: &mut Hall<L, O>,
     other: &mut Hall<M, O>,
     baton: &mut Baton<L, O>,

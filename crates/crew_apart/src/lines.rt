@@ -2,8 +2,8 @@
 ghost use Rattle.std.specs.Prelude.{◌≡◌, []};
 
 use chronicle::Moment;
-use crew::hall::outbox::{ChannelName, Sender};
-use crew::hall::{Baton, Hall, Naming, Register, Settings, Told};
+use crew::book::outbox::{ChannelName, Sender};
+use crew::book::{Baton, FlushList, Hall, Naming, Register, Settings};
 use crew::{Desk, Gate, Job, work_one};
 use line_grammar::{Octets, Piece};
 use registration::Accounts;
@@ -19,9 +19,9 @@ pub fn hall<L: Naming, R: Wait + Drop>(
     requires empty { register.rows ≡ [] }
 {
     let settings = Settings {
-        server: Octets::copied(alloc, b"irc.example").ok()?,
-        info: Octets::copied(alloc, b"halld").ok()?,
-        version: Octets::copied(alloc, b"halld-1").ok()?,
+        server: Octets::copy_of(alloc, b"irc.example").ok()?,
+        info: Octets::copy_of(alloc, b"halld").ok()?,
+        version: Octets::copy_of(alloc, b"halld-1").ok()?,
         created: Moment::new(0),
         motd: None,
         accounts: Accounts::new(alloc),
@@ -45,9 +45,9 @@ pub fn work_under_slot<L: Naming, R: Wait + Drop, G: Gate>(
     let Some(slot) = desk.slot(rt) else {
         return (baton, false);
     };
-    let mut told = Told::new(alloc);
+    let mut flushes = FlushList::new(alloc);
     let job = Job { baton, piece };
-    let back = work_one(rt, hall, job, Moment::new(0), gate, &mut told);
+    let back = work_one(rt, hall, job, Moment::new(0), gate, &mut flushes);
     desk.back(rt, slot);
     (back.baton, back.outcome.is_ok())
 }

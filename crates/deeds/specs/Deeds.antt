@@ -8,14 +8,14 @@ use Rattle.chronicle.specs.declared.record.Kind.TheVariants as kind
 use Rattle.chronicle.specs.History.{Rec, actor}
 use Rattle.labels_batches.specs.declared.answers.Tagged.{Tagged}
 use Rattle.labels_batches.specs.Labels.{label_of}
-use Rattle.labels_batches.specs.Answers.{answered, tagged_as}
-use Rattle.labels_batches.specs.Rendered.{rendered}
+use Rattle.labels_batches.specs.Answers.{whole_answer, tagged_as}
+use Rattle.labels_batches.specs.Rendered.{text_as}
 use Rattle.roster.specs.declared.deed.Deed.{Deed}
 use Rattle.roster.specs.declared.deed.Deed.TheVariants.{Opened, Ended}
 use Rattle.roster.specs.LookBack.{after, caps}
-use Rattle.drafts.specs.declared.effect.Effect.{Effect}
-use Rattle.drafts.specs.declared.effect.Effect.TheVariants.{Establish}
-use Rattle.drafts.specs.Effects.{deeds_of, reply, copies, due}
+use Rattle.transactions.specs.declared.effect.Effect.{Effect}
+use Rattle.transactions.specs.declared.effect.Effect.TheVariants.{Establish}
+use Rattle.transactions.specs.Effects.{deeds_of, reply, copies, due}
 use Rattle.deeds.specs.Departure.{departs}
 use Rattle.deeds.specs.Rows.{of_asked}
 
@@ -45,13 +45,13 @@ label_in fs k = None
 -- all lines of record n of s to t: to s itself the answer, under this label, and what it sent to itself; to another
 -- what it is shown
 abbrev pub lines : Settings → ℕ → Option (List ℕ) → List Effect → ℕ → ℕ → List Tagged
-lines g s label es n t = cond (s == t) (answered g.server label n (reply s es) (copies es))
+lines g s label es n t = cond (s == t) (whole_answer g.server label n (reply s es) (copies es))
     (map (tagged_as None) (due es t))
 
 -- as t takes them at the record's moment, by the capabilities that it had before it
-abbrev pub spelled : Settings → List Deed → ℕ → Option (List ℕ) → List Effect → ℤ → ℕ → ℕ → List ℕ
-spelled g fs s label es moment n t = rendered (caps fs t) moment (lines g s label es n t)
+abbrev pub octets_for : Settings → List Deed → ℕ → Option (List ℕ) → List Effect → ℤ → ℕ → ℕ → List ℕ
+octets_for g fs s label es moment n t = text_as (caps fs t) moment (lines g s label es n t)
 
 -- the text of record n of this kind and moment to t
 abbrev pub text : Settings → List Deed → Kind → ℤ → ℕ → ℕ → List ℕ
-text g fs k moment n t = spelled g fs (actor k) (label_in fs k) (effects g fs k) moment n t
+text g fs k moment n t = octets_for g fs (actor k) (label_in fs k) (effects g fs k) moment n t

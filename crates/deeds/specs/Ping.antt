@@ -1,4 +1,4 @@
--- What the server asks a session that is quiet: RFC 2812, section 3.7.2.
+-- What the server asks a session that is idle: RFC 2812, section 3.7.2.
 use Rattle.std.specs.Prelude.{ℕ, List, [], ◌∷◌, codes, false}
 use Rattle.numerics.specs.declared.outgoing.Out.{Out}
 use Rattle.numerics.specs.Outgoing.{line}

@@ -7,6 +7,6 @@ mod rows;
 
 pub use commands::session_commands::support_is_whole;
 pub use departure::decide_gone;
-pub use drafts::{Effect, Shown, Verdict};
 pub use pings::ping;
 pub use rows::decide;
+pub use transactions::{Effect, ShownLine, Verdict};

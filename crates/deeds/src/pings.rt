@@ -1,4 +1,4 @@
-//! What the server asks a session that is quiet (RFC 2812, section 3.7.2).
+//! What the server asks a session that is idle (RFC 2812, section 3.7.2).
 ghost use Rattle.std.specs.Prelude.{◌≡◌, IfOk};
 ghost use Rattle.deeds.specs.Ping.{ping_line};
 

@@ -1,11 +1,11 @@
 //! What comes of a command.
 ghost use Rattle.std.specs.Prelude.{◌≡◌, Some, None, option_copied, IfOk, OnOk};
-ghost use Rattle.roster.specs.LookBack.{after, opened};
+ghost use Rattle.roster.specs.LookBack.{after, opened_in};
 ghost use Rattle.roster.specs.Legal.{IsOpened, AreNext};
-ghost use Rattle.drafts.specs.Words.{grown};
-ghost use Rattle.deeds.specs.Rows.{asked, fault_numeric, is_for_registered, is_silent};
-ghost use Rattle.deeds.specs.Rows.{of_asked, of_command, refused, served, turned_away};
-ghost use Rattle.drafts.specs.Verdicts.{IsVerdict};
+ghost use Rattle.transactions.specs.Words.{grown};
+ghost use Rattle.deeds.specs.Rows.{if_allowed, fault_numeric, is_for_registered, is_silent};
+ghost use Rattle.deeds.specs.Rows.{of_asked, of_command, tells_fault, by_itself, turned_away};
+ghost use Rattle.transactions.specs.Verdicts.{IsVerdict};
 
 use chronicle::{Moment, SessionId};
 use command_params::ReadFault;
@@ -15,25 +15,25 @@ use commands::query_commands::ask;
 use commands::session_commands::{complete, serve_session};
 use commands::talk_commands::{is_unanswered, serve_talk};
 use commands::{Asked, Command};
-use drafts::{Draft, Verdict, tell};
 use line_grammar::Octets;
 use numerics::Numeric;
 use roster::Roster;
 use std::alloc::{AllocError, Global};
+use transactions::{Transaction, Verdict, tell};
 
 /// Does what a command asks for by itself.
-fn serve(draft: &mut Draft, session: SessionId, command: &Command) -> Result<(), AllocError>
-    requires opened { IsOpened draft.old.facts session }
-    requires first { draft.old.facts ≡ draft.old.base }
-    ensures { OnOk result (draft.new
-        ≡ grown draft.old (served draft.old.settings draft.old.facts session command.now)) }
+fn serve(tx: &mut Transaction, session: SessionId, command: &Command) -> Result<(), AllocError>
+    requires opened { IsOpened tx.old.facts session }
+    requires first { tx.old.facts ≡ tx.old.base }
+    ensures { OnOk result (tx.new
+        ≡ grown tx.old (by_itself tx.old.settings tx.old.facts session command.now)) }
 {
     match command {
-        Command::Session(command) => serve_session(draft, session, command),
-        Command::Channel(command) => serve_channel(draft, session, command),
-        Command::Mode(command) => serve_mode(draft, session, command),
-        Command::Talk(command) => serve_talk(draft, session, command),
-        Command::Query(query) => ask(draft, session, query),
+        Command::Session(command) => serve_session(tx, session, command),
+        Command::Channel(command) => serve_channel(tx, session, command),
+        Command::Mode(command) => serve_mode(tx, session, command),
+        Command::Talk(command) => serve_talk(tx, session, command),
+        Command::Query(query) => ask(tx, session, query),
     }
 }
 
@@ -57,39 +57,39 @@ fn is_silent(command: &Command) -> bool
 }
 
 /// Tells a session that it isn't registered, but not after NOTICE.
-fn turn_away(draft: &mut Draft, session: SessionId, command: &Command) -> Result<(), AllocError>
-    ensures { OnOk result (draft.new
-        ≡ grown draft.old (turned_away draft.old.settings draft.old.facts session command.now)) }
+fn turn_away(tx: &mut Transaction, session: SessionId, command: &Command) -> Result<(), AllocError>
+    ensures { OnOk result (tx.new
+        ≡ grown tx.old (turned_away tx.old.settings tx.old.facts session command.now)) }
 {
     if is_silent(command) {
         return Ok(());
     }
-    tell(draft, session, Numeric::NotRegistered)
+    tell(tx, session, Numeric::NotRegistered)
 }
 
 /// Does what a command asks for by itself, where its session may.
-fn obey(draft: &mut Draft, session: SessionId, command: &Command) -> Result<(), AllocError>
-    requires opened { IsOpened draft.old.facts session }
-    requires first { draft.old.facts ≡ draft.old.base }
-    ensures { OnOk result (draft.new
-        ≡ grown draft.old (asked draft.old.settings draft.old.facts session command.now)) }
+fn obey(tx: &mut Transaction, session: SessionId, command: &Command) -> Result<(), AllocError>
+    requires opened { IsOpened tx.old.facts session }
+    requires first { tx.old.facts ≡ tx.old.base }
+    ensures { OnOk result (tx.new
+        ≡ grown tx.old (if_allowed tx.old.settings tx.old.facts session command.now)) }
 {
-    if is_for_registered(command) && !draft.is_registered(session) {
-        return turn_away(draft, session, command);
+    if is_for_registered(command) && !tx.is_registered(session) {
+        return turn_away(tx, session, command);
     }
-    serve(draft, session, command)
+    serve(tx, session, command)
 }
 
 /// Does what a command asks for, and registers a session that is complete by it.
-#[tactic(auto, using(drafts::proofs::Replay::grown_grown))]
-fn perform(draft: &mut Draft, session: SessionId, command: &Command) -> Result<(), AllocError>
-    requires opened { IsOpened draft.old.facts session }
-    requires first { draft.old.facts ≡ draft.old.base }
-    ensures { OnOk result (draft.new
-        ≡ grown draft.old (of_command draft.old.settings draft.old.facts session command.now)) }
+#[tactic(auto, using(transactions::proofs::Replay::grown_grown))]
+fn perform(tx: &mut Transaction, session: SessionId, command: &Command) -> Result<(), AllocError>
+    requires opened { IsOpened tx.old.facts session }
+    requires first { tx.old.facts ≡ tx.old.base }
+    ensures { OnOk result (tx.new
+        ≡ grown tx.old (of_command tx.old.settings tx.old.facts session command.now)) }
 {
-    obey(draft, session, command)?;
-    complete(draft, session)
+    obey(tx, session, command)?;
+    complete(tx, session)
 }
 
 /// The numeric that answers a message which asks for nothing that can be done.
@@ -99,11 +99,11 @@ fn fault_numeric(alloc: Global, fault: &ReadFault) -> Result<Option<Numeric>, Al
     Ok(match fault {
         ReadFault::UnknownCommand { name } => Some(Numeric::UnknownCommand(name.clone()?)),
         ReadFault::NeedMoreParams { command } => {
-            Some(Numeric::NeedMoreParams(Octets::copied(alloc, command.text())?))
+            Some(Numeric::NeedMoreParams(Octets::copy_of(alloc, command.text())?))
         }
         ReadFault::NoNicknameGiven => Some(Numeric::NoNicknameGiven),
         ReadFault::NoRecipient { command } => {
-            Some(Numeric::NoRecipient(Octets::copied(alloc, command.text())?))
+            Some(Numeric::NoRecipient(Octets::copy_of(alloc, command.text())?))
         }
         ReadFault::NoTextToSend => Some(Numeric::NoTextToSend),
         ReadFault::NoOrigin => Some(Numeric::NoOrigin),
@@ -115,28 +115,28 @@ fn fault_numeric(alloc: Global, fault: &ReadFault) -> Result<Option<Numeric>, Al
 }
 
 /// Answers a message which asks for nothing that can be done.
-fn refuse(draft: &mut Draft, session: SessionId, fault: &ReadFault) -> Result<(), AllocError>
-    ensures { OnOk result (draft.new ≡ grown draft.old
-        (refused draft.old.settings draft.old.facts session (fault_numeric fault.now))) }
+fn refuse(tx: &mut Transaction, session: SessionId, fault: &ReadFault) -> Result<(), AllocError>
+    ensures { OnOk result (tx.new ≡ grown tx.old
+        (tells_fault tx.old.settings tx.old.facts session (fault_numeric fault.now))) }
 {
-    match fault_numeric(draft.alloc(), fault)? {
-        Some(numeric) => tell(draft, session, numeric),
+    match fault_numeric(tx.alloc(), fault)? {
+        Some(numeric) => tell(tx, session, numeric),
         None => Ok(()),
     }
 }
 
 /// Does what a line asks for.
-fn answer(draft: &mut Draft, session: SessionId, asked: &Asked) -> Result<(), AllocError>
-    requires opened { IsOpened draft.old.facts session }
-    requires first { draft.old.facts ≡ draft.old.base }
-    ensures { OnOk result (draft.new
-        ≡ grown draft.old (of_asked draft.old.settings draft.old.facts session asked.now)) }
+fn answer(tx: &mut Transaction, session: SessionId, asked: &Asked) -> Result<(), AllocError>
+    requires opened { IsOpened tx.old.facts session }
+    requires first { tx.old.facts ≡ tx.old.base }
+    ensures { OnOk result (tx.new
+        ≡ grown tx.old (of_asked tx.old.settings tx.old.facts session asked.now)) }
 {
     match asked {
         Asked::Nothing => Ok(()),
-        Asked::TooLong => tell(draft, session, Numeric::InputTooLong),
-        Asked::Command(command) => perform(draft, session, command),
-        Asked::Fault(fault) => refuse(draft, session, fault),
+        Asked::TooLong => tell(tx, session, Numeric::InputTooLong),
+        Asked::Command(command) => perform(tx, session, command),
+        Asked::Fault(fault) => refuse(tx, session, fault),
     }
 }
 
@@ -154,9 +154,9 @@ pub fn decide(
         (of_asked roster.now.settings roster.now.facts session asked.now)) }
     ensures next { IfOk result (λ v. AreNext roster.now.facts v.deeds.items) }
     ensures opened { IfOk result
-        (λ v. opened (after roster.now.facts v.deeds.items) ≡ opened roster.now.facts) }
+        (λ v. opened_in (after roster.now.facts v.deeds.items) ≡ opened_in roster.now.facts) }
 {
-    let mut draft = Draft::new(alloc, roster, session);
-    answer(&mut draft, session, asked)?;
-    Ok(draft.finish())
+    let mut tx = Transaction::new(alloc, roster, session);
+    answer(&mut tx, session, asked)?;
+    Ok(tx.finish())
 }

@@ -6,8 +6,8 @@ use Rattle.std.proofs.Math.Seq.{drop-append_seam}
 use Rattle.line_grammar.specs.declared.splitter.Piece.{Piece}
 use Rattle.chronicle.specs.declared.record.Kind.{Kind}
 use Rattle.chronicle.specs.History.{Rec, opened_by, said_by, sessions, accepted, misses, ends, shut}
-use Rattle.chronicle.specs.Quiet.{PING_AFTER, hears_of, is_tick, quiet_since}
-use Rattle.chronicle.specs.Quiet.{was_before, is_silent, was_pinged, is_pinged}
+use Rattle.chronicle.specs.Idle.{PING_AFTER, hears_of, is_tick, idle_since}
+use Rattle.chronicle.specs.Idle.{was_before, is_silent, was_pinged, is_pinged}
 use Rattle.registration.specs.declared.settings.Settings.{Settings}
 use Rattle.roster.specs.declared.deed.Deed.{Deed}
 use Rattle.roster.specs.LookBack.{after, caps}
@@ -16,9 +16,9 @@ use Rattle.deeds.specs.Deeds.{deeds, facts, text}
 use Rattle.deeds.specs.Ping.{ping_line}
 use Rattle.deliveries.specs.declared.delivery.Delivery.{Delivery}
 use Rattle.deliveries.specs.declared.delivery.Delivery.TheVariants.{Last}
-use Rattle.deliveries.specs.Owed.{item, reason, ticked, told, delivery, owed}
+use Rattle.deliveries.specs.Owed.{item, reason, tick_text, told_text, delivery, owed}
 use Rattle.deliveries.specs.Base.{base, dropped_part, kept_part, facts_from, records_from, sessions_from}
-use Rattle.deliveries.specs.Base.{shut_from, quiet_since_from, is_silent_from, was_pinged_from, is_pinged_from}
+use Rattle.deliveries.specs.Base.{shut_from, idle_since_from, is_silent_from, was_pinged_from, is_pinged_from}
 use Rattle.deliveries.specs.Base.{ticked_from, told_from, delivery_from, owed_from, accepted_from}
 
 pub facts_on : (g : Settings) (h later : List Rec) → facts g (later ++ h) ≡ facts_from g (base g h) later
@@ -36,18 +36,18 @@ pub shut_on : (g : Settings) (h later : List Rec) (t : ℕ) → shut (later ++ h
 shut_on g h [] t = refl
 shut_on g h (r ∷ later) t = ap (λ b. misses r t || ends r.kind t || b) (shut_on g h later t)
 
-pub quiet_on : (g : Settings) (h later : List Rec) (t : ℕ) → quiet_since (later ++ h) t
-    ≡ quiet_since_from (base g h) later t
-quiet_on g h [] t = refl
-quiet_on g h (r ∷ later) t = ap (λ (since : Option ℤ). cond (hears_of r.kind t) (Some r.moment) since)
-    (quiet_on g h later t)
+pub idle_on : (g : Settings) (h later : List Rec) (t : ℕ) → idle_since (later ++ h) t
+    ≡ idle_since_from (base g h) later t
+idle_on g h [] t = refl
+idle_on g h (r ∷ later) t = ap (λ (since : Option ℤ). cond (hears_of r.kind t) (Some r.moment) since)
+    (idle_on g h later t)
 
 silent_on : (g : Settings) (h later : List Rec) (t : ℕ) (moment : ℤ) → is_silent (later ++ h) t moment
     ≡ is_silent_from (base g h) later t moment
 silent_on g h later t moment =
-    ap (λ (b : Bool). not b && was_before (quiet_since (later ++ h) t) PING_AFTER moment) (shut_on g h later t)
+    ap (λ (b : Bool). not b && was_before (idle_since (later ++ h) t) PING_AFTER moment) (shut_on g h later t)
     ∙ ap (λ (since : Option ℤ). not (shut_from (base g h) later t) && was_before since PING_AFTER moment)
-    (quiet_on g h later t)
+    (idle_on g h later t)
 
 pub pinged_on : (g : Settings) (h later : List Rec) (t : ℕ) → was_pinged (later ++ h) t
     ≡ was_pinged_from (base g h) later t
@@ -73,7 +73,7 @@ ticked_by g fs gs b c k moment t ef eb =
     ∙ ap (λ (x : Bool). cond (is_tick k && x) (spelled_for (caps gs t) moment (ping_line g.server)) []) eb
 
 ticked_on : (g : Settings) (h later : List Rec) (k : Kind) (moment : ℤ) (t : ℕ)
-    → ticked g (later ++ h) k moment t ≡ ticked_from g (base g h) later k moment t
+    → tick_text g (later ++ h) k moment t ≡ ticked_from g (base g h) later k moment t
 ticked_on g h later k moment t = ticked_by g (facts g (later ++ h)) (facts_from g (base g h) later)
     (is_pinged (later ++ h) t moment) (is_pinged_from (base g h) later t moment) k moment t (facts_on g h later)
     (is_pinged_on g h later t moment)
@@ -93,7 +93,7 @@ delivered_by k t a b x y ea ex =
     ∙ ap (λ xs. cond (ends k t) (Last (b + 1) (reason k) ∷ []) (item (b + 1) xs)) ex
 
 told_on : (g : Settings) (h later : List Rec) (k : Kind) (moment : ℤ) (t : ℕ)
-    → told g (later ++ h) k moment t ≡ told_from g (base g h) later k moment t
+    → told_text g (later ++ h) k moment t ≡ told_from g (base g h) later k moment t
 told_on g h later k moment t =
     ap (λ xs. xs ++ cond (nat_le t (sessions (later ++ h)))
     (text g (facts g (later ++ h)) k moment (length (later ++ h) + 1) t) []) (ticked_on g h later k moment t)
@@ -105,7 +105,7 @@ told_on g h later k moment t =
 pub delivery_on : (g : Settings) (h later : List Rec) (k : Kind) (moment : ℤ) (t : ℕ)
     → delivery g (later ++ h) k moment t ≡ delivery_from g (base g h) later k moment t
 delivery_on g h later k moment t = delivered_by k t (length (later ++ h)) (records_from (base g h) later)
-    (told g (later ++ h) k moment t) (told_from g (base g h) later k moment t) (records_on g h later)
+    (told_text g (later ++ h) k moment t) (told_from g (base g h) later k moment t) (records_on g h later)
     (told_on g h later k moment t)
 
 added : (xs ys zs : List Delivery) (m b c : Bool) (d e : List Delivery) → xs ≡ ys ++ zs → b ≡ c → d ≡ e

@@ -6,7 +6,7 @@ use Rattle.chronicle.specs.History.{Rec, ends}
 use Rattle.registration.specs.declared.settings.Settings.{Settings}
 use Rattle.deliveries.specs.declared.delivery.Delivery.{Delivery}
 use Rattle.deliveries.specs.declared.delivery.Delivery.TheVariants.{Last}
-use Rattle.deliveries.specs.Owed.{number_of, item, reason, told, delivery}
+use Rattle.deliveries.specs.Owed.{number_of, item, reason, told_text, delivery}
 
 abbrev first_number : List Delivery → ℕ
 first_number [] = 0
@@ -21,4 +21,4 @@ of_number false n w (b ∷ bs) d e = sym (ap first_number e)
 -- the delivery of a record that comes after h
 pub of_newest : (g : Settings) (h : List Rec) (k : Kind) (moment : ℤ) (t : ℕ) (d : Delivery)
     → delivery g h k moment t ≡ d ∷ [] → number_of d ≡ length h + 1
-of_newest g h k moment t d e = of_number (ends k t) (length h + 1) (reason k) (told g h k moment t) d e
+of_newest g h k moment t d e = of_number (ends k t) (length h + 1) (reason k) (told_text g h k moment t) d e

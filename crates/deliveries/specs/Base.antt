@@ -5,7 +5,7 @@ use Rattle.std.specs.Prelude.{[], ◌∷◌, ◌++◌, length, take, drop, Optio
 use Rattle.line_grammar.specs.declared.splitter.Piece.{Piece}
 use Rattle.chronicle.specs.declared.record.Kind.{Kind}
 use Rattle.chronicle.specs.History.{Rec, last_moment, opened_by, sessions, accepted, misses, ends, shut, gone}
-use Rattle.chronicle.specs.Quiet.{PING_AFTER, hears_of, is_tick, quiet_since, was_before, was_pinged}
+use Rattle.chronicle.specs.Idle.{PING_AFTER, hears_of, is_tick, idle_since, was_before, was_pinged}
 use Rattle.registration.specs.declared.settings.Settings.{Settings}
 use Rattle.roster.specs.declared.deed.Deed.{Deed}
 use Rattle.roster.specs.LookBack.{after, caps}
@@ -18,7 +18,7 @@ use Rattle.deliveries.specs.Owed.{item, reason, owed}
 
 -- what is known of sessions and channels, in which each look-up is a look-back; how many records and how many
 -- sessions there are, which is the number of the newest of each; the newest moment; who is shut and who is gone; and
--- of each session since when it is quiet, whether it was pinged since, how many of its pieces were accepted and how
+-- of each session since when it is idle, whether it was pinged since, how many of its pieces were accepted and how
 -- many deliveries it is owed
 pub record Base : Type 0 where
   pub facts : List Deed
@@ -27,7 +27,7 @@ pub record Base : Type 0 where
   pub moment : ℤ
   pub shut : ℕ → Bool
   pub gone : ℕ → Bool
-  pub quiet_since : ℕ → Option ℤ
+  pub idle_since : ℕ → Option ℤ
   pub was_pinged : ℕ → Bool
   pub accepted : ℕ → ℕ
   pub owed : ℕ → ℕ
@@ -42,7 +42,7 @@ base g h =
       moment = last_moment h;
       shut = shut h;
       gone = gone h;
-      quiet_since = quiet_since h;
+      idle_since = idle_since h;
       was_pinged = was_pinged h;
       accepted = λ t. length (accepted h t);
       owed = λ t. length (owed g h t);
@@ -72,12 +72,12 @@ abbrev pub shut_from : Base → List Rec → ℕ → Bool
 shut_from b [] t = b.shut t
 shut_from b (r ∷ h) t = misses r t || ends r.kind t || shut_from b h t
 
-abbrev pub quiet_since_from : Base → List Rec → ℕ → Option ℤ
-quiet_since_from b [] t = b.quiet_since t
-quiet_since_from b (r ∷ h) t = cond (hears_of r.kind t) (Some r.moment) (quiet_since_from b h t)
+abbrev pub idle_since_from : Base → List Rec → ℕ → Option ℤ
+idle_since_from b [] t = b.idle_since t
+idle_since_from b (r ∷ h) t = cond (hears_of r.kind t) (Some r.moment) (idle_since_from b h t)
 
 abbrev pub is_silent_from : Base → List Rec → ℕ → ℤ → Bool
-is_silent_from b h t moment = not (shut_from b h t) && was_before (quiet_since_from b h t) PING_AFTER moment
+is_silent_from b h t moment = not (shut_from b h t) && was_before (idle_since_from b h t) PING_AFTER moment
 
 abbrev pub was_pinged_from : Base → List Rec → ℕ → Bool
 was_pinged_from b [] t = b.was_pinged t

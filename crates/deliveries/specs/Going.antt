@@ -1,12 +1,12 @@
 -- That a history goes on from its base alone: what it owes and accepts after that, and the base that it has then.
 use Rattle.std.specs.Prelude.{◌≡◌, ℕ, List, ◌++◌, length}
 use Rattle.chronicle.specs.History.{Rec, sessions, accepted, shut}
-use Rattle.chronicle.specs.Quiet.{quiet_since, was_pinged}
+use Rattle.chronicle.specs.Idle.{idle_since, was_pinged}
 use Rattle.registration.specs.declared.settings.Settings.{Settings}
 use Rattle.deeds.specs.Deeds.{facts}
 use Rattle.deliveries.specs.Owed.{owed}
 use Rattle.deliveries.specs.Base.{base, facts_from, records_from, sessions_from, shut_from}
-use Rattle.deliveries.specs.Base.{quiet_since_from, was_pinged_from, owed_from, accepted_from}
+use Rattle.deliveries.specs.Base.{idle_since_from, was_pinged_from, owed_from, accepted_from}
 
 -- what a history owes is what its first records owe, and what the later ones do from the base of the first
 abbrev pub OwedGoesOn : Type 0
@@ -28,9 +28,9 @@ NumbersGoOn = (g : Settings) (h later : List Rec) → (length (later ++ h) ≡ r
 abbrev pub ShutGoesOn : Type 0
 ShutGoesOn = (g : Settings) (h later : List Rec) (t : ℕ) → shut (later ++ h) t ≡ shut_from (base g h) later t
 
-abbrev pub QuietGoesOn : Type 0
-QuietGoesOn = (g : Settings) (h later : List Rec) (t : ℕ) → quiet_since (later ++ h) t
-    ≡ quiet_since_from (base g h) later t
+abbrev pub IdleGoesOn : Type 0
+IdleGoesOn = (g : Settings) (h later : List Rec) (t : ℕ) → idle_since (later ++ h) t
+    ≡ idle_since_from (base g h) later t
 
 abbrev pub PingedGoesOn : Type 0
 PingedGoesOn = (g : Settings) (h later : List Rec) (t : ℕ) → was_pinged (later ++ h) t

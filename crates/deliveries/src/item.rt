@@ -3,8 +3,8 @@ ghost use Rattle.std.specs.Prelude.{◌≡◌};
 
 use crate::delivery::Delivery;
 use chronicle::{Journal, SessionId};
-use ghosts::Snapshot;
 use registration::Settings;
+use snapshots::Snapshot;
 use std::marker::Model;
 
 /// A delivery and the session that it is for. A clause sees beside these the history in which it is put, and the
@@ -18,9 +18,9 @@ pub struct Item {
 }
 
 impl Model for Item {
-    ghost use Rattle.deliveries.specs.Shown.{Shown};
+    ghost use Rattle.deliveries.specs.Shown.{ItemView};
 
-    ghost Value = { Shown };
+    ghost Value = { ItemView };
 
     ghost view = { λ x. record {
       delivery = x.delivery;

@@ -1,6 +1,6 @@
 //! That a history goes on from its base alone, as functions that do nothing.
 ghost use Rattle.deliveries.specs.Going.{OwedGoesOn, AcceptedGoesOn, FactsGoOn, NumbersGoOn};
-ghost use Rattle.deliveries.specs.Going.{ShutGoesOn, QuietGoesOn, PingedGoesOn};
+ghost use Rattle.deliveries.specs.Going.{ShutGoesOn, IdleGoesOn, PingedGoesOn};
 
 /// What later records owe follows from them and from the base of the history before them, and comes after what that
 /// owed.
@@ -28,9 +28,9 @@ pub fn shut_goes_on()
     ensures { ShutGoesOn }
 {}
 
-/// Since when a session is quiet after later records follows from them and from the base.
-pub fn quiet_goes_on()
-    ensures { QuietGoesOn }
+/// Since when a session is idle after later records follows from them and from the base.
+pub fn idle_goes_on()
+    ensures { IdleGoesOn }
 {}
 
 /// Whether a session was pinged since it was heard of follows from later records and from the base.

@@ -10,7 +10,7 @@ pub use delivery::Delivery;
 pub use item::Item;
 pub use labels_batches::Text;
 pub use laws::{
-    accepted_goes_on, facts_go_on, numbers_go_on, owed_goes_on, pinged_goes_on, quiet_goes_on,
+    accepted_goes_on, facts_go_on, idle_goes_on, numbers_go_on, owed_goes_on, pinged_goes_on,
     shut_goes_on,
 };
 pub use writing::{WriteFault, write_out};

@@ -5,18 +5,18 @@ use Rattle.std.proofs.lemmas.Bool.{ne_eqb, cond-false}
 use Rattle.std.specs.Prelude.{is_none}
 use Rattle.std.specs.Option.{is_some}
 use Rattle.halld.specs.declared.header.Limits.{Limits}
-use Rattle.halld.specs.declared.script.Step.{Step}
+use Rattle.halld.specs.declared.script.ScriptStep.{ScriptStep}
 use Rattle.halld.specs.Script.{step_of}
 use Rattle.halld.specs.Headers.{with_header, unless_none, after_line, are_good}
-use Rattle.halld.specs.Lines.{continued, lines_of, is_step, header_by, is_bad, head_after, first_bad}
+use Rattle.halld.specs.Lines.{text_before, lines_of, is_step, header_by, is_bad, head_after, first_bad}
 use Rattle.halld.specs.Lines.{limits_after, Told, is_set_after, told_after, told_ahead}
 
-pub continued-nil : (ls : List (List ℕ)) → continued [] ls ≡ ls
+pub continued-nil : (ls : List (List ℕ)) → text_before [] ls ≡ ls
 continued-nil [] = refl
 continued-nil (l ∷ ls) = refl
 
-pub continued-continued : (line : List ℕ) (b : ℕ) (ls : List (List ℕ)) → continued (line ++ b ∷ []) ls
-    ≡ continued line (continued (b ∷ []) ls)
+pub continued-continued : (line : List ℕ) (b : ℕ) (ls : List (List ℕ)) → text_before (line ++ b ∷ []) ls
+    ≡ text_before line (text_before (b ∷ []) ls)
 continued-continued line b [] = refl
 continued-continued line b (l ∷ ls) = ap (λ first. first ∷ ls) (append_assoc line (b ∷ []) l)
 
@@ -39,7 +39,7 @@ pub line_goes_on : (h : Option Limits) (n : ℕ) (line : List ℕ) (b : ℕ) (re
     → told_ahead h n (line ++ b ∷ []) rest ≡ told_ahead h n line (b ∷ rest)
 line_goes_on h n line b rest no_end =
     ap (told_after h (n + 1)) (continued-continued line b (lines_of rest)
-    ∙ ap (continued line) (sym (cond-false _ _ _ (ne_eqb b 10 no_end))))
+    ∙ ap (text_before line) (sym (cond-false _ _ _ (ne_eqb b 10 no_end))))
 
 alike : (x y : Option ℕ) (s t : Bool) → x ≡ y → s ≡ t → (let a : Told = record { bad = x; is_set = s } in a)
     ≡ record { bad = y; is_set = t }
@@ -56,7 +56,8 @@ pub empty_line : (h : Option Limits) (n : ℕ) (more : List (List ℕ)) → told
 empty_line None n more = refl
 empty_line (Some l) n more = refl
 
-step_is_good : (h : Option Limits) (line : List ℕ) (step : Step) → step_of line ≡ Some step → is_bad h line ≡ false
+step_is_good : (h : Option Limits) (line : List ℕ) (step : ScriptStep) → step_of line ≡ Some step
+    → is_bad h line ≡ false
 step_is_good h [] step is = refl
 step_is_good h (x ∷ xs) step is = ap (λ o. is_none o && is_none (header_by h (x ∷ xs))) is
 
@@ -70,7 +71,7 @@ set_by None line more is = refl
 set_by (Some l) line more is = ap (λ t. are_good (cond t l (limits_after (after_line l line) more))) is
 
 -- a step
-pub step_line : (h : Option Limits) (n : ℕ) (line : List ℕ) (step : Step) (more : List (List ℕ)) → step_of line
+pub step_line : (h : Option Limits) (n : ℕ) (line : List ℕ) (step : ScriptStep) (more : List (List ℕ)) → step_of line
     ≡ Some step → is_set_after h [] ≡ true → told_after None (n + 1) more ≡ told_after h n (line ∷ more)
 step_line h n line step more is set =
     sym (alike _ _ _ _ (goes_on h None n line more (step_is_good h line step is)

@@ -8,7 +8,7 @@ use Rattle.std.proofs.lemmas.List.{drop_more}
 use Rattle.halld.specs.declared.entry.PlayFault.{PlayFault}
 use Rattle.halld.specs.declared.entry.PlayFault.TheVariants.{BadLine, BadSettings, ReadFailed, WriteFailed, Memory}
 use Rattle.halld.specs.declared.header.Limits.{Limits}
-use Rattle.halld.specs.declared.script.Step.{Step}
+use Rattle.halld.specs.declared.script.ScriptStep.{ScriptStep}
 use Rattle.casemapping.specs.Names.{host_shape}
 use Rattle.registration.specs.declared.settings.Settings.{Settings}
 use Rattle.registration.specs.Settings.{is_motd}
@@ -31,7 +31,7 @@ pub from_outside : {T : Type 0} (r : Result T PlayFault) (t : Told) → IfErr r 
 from_outside (Ok v) t is = tt
 from_outside (Err e) t is = outside t e is
 
-setting : (h : Option Limits) (n : ℕ) (line : List ℕ) (step : Step) (more : List (List ℕ)) (e : PlayFault)
+setting : (h : Option Limits) (n : ℕ) (line : List ℕ) (step : ScriptStep) (more : List (List ℕ)) (e : PlayFault)
     → step_of line ≡ Some step → IsFaultOf (told_after h 1 []) e → IsFaultOf (told_after h n (line ∷ more)) e
 setting h n line step more (BadLine k) is fault = absurd (cc)
 setting h n line step more BadSettings is fault = set_by h line more (ap is_some is) ∙ fault
@@ -40,7 +40,7 @@ setting h n line step more WriteFailed is fault = tt
 setting h n line step more Memory is fault = tt
 
 -- where the line is a step
-pub at_step : {T : Type 0} (r : Result T PlayFault) (h : Option Limits) (n : ℕ) (line : List ℕ) (step : Step)
+pub at_step : {T : Type 0} (r : Result T PlayFault) (h : Option Limits) (n : ℕ) (line : List ℕ) (step : ScriptStep)
     → step_of line ≡ Some step → IfErr r (IsFaultOf (told_after h 1 []))
     → IfErr r (λ e. (more : List (List ℕ)) → IsFaultOf (told_after h n (line ∷ more)) e)
 at_step (Ok v) h n line step is fault = tt
@@ -60,7 +60,7 @@ at_end h n line e is = subst (λ x. IsFaultOf x e) (line_last h n line) (is [])
 
 -- what a step's line tells is told from there on
 pub after_step : {T : Type 0} (r : Result T PlayFault) (h h' : Option Limits) (n n' : ℕ) (line : List ℕ)
-    (step : Step) → step_of line ≡ Some step → n' ≡ n → OnOk r (h' ≡ None) → OnOk r (is_set_after h [] ≡ true)
+    (step : ScriptStep) → step_of line ≡ Some step → n' ≡ n → OnOk r (h' ≡ None) → OnOk r (is_set_after h [] ≡ true)
     → OnOk r ((more : List (List ℕ)) → told_after h' (n' + 1) more ≡ told_after h n (line ∷ more))
 after_step (Ok v) h h' n n' line step is same none set =
     λ more. ap (λ x. told_after x (n' + 1) more) none ∙ ap (λ k. told_after None (k + 1) more) same

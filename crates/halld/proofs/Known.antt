@@ -7,7 +7,7 @@ use Rattle.std.specs.Io.KnownBytes.{Consumes, Keeps, IsAtEnd, Appends}
 use Rattle.halld.specs.declared.entry.PlayFault.{PlayFault}
 use Rattle.halld.specs.declared.entry.PlayFault.TheVariants.{WriteFailed}
 use Rattle.halld.specs.Headers.{default_limits}
-use Rattle.halld.specs.Lines.{continued, lines_of, limits_after, Told, told_of, told_after, told_ahead}
+use Rattle.halld.specs.Lines.{text_before, lines_of, limits_after, Told, told_of, told_after, told_ahead}
 use Rattle.halld.specs.declared.header.Limits.{Limits}
 use Rattle.halld.specs.declared.reader.Stage.{Stage}
 use Rattle.halld.specs.declared.reader.Stage.TheVariants.{Head, Steps}
@@ -77,10 +77,10 @@ printed_from_start (Head k) line h l script text p =
     let same : k ≡ default_limits = (let f : Some k ≡ Some default_limits = h in cc) in
     subst (λ (xs : List (List ℕ)). ArePerformed (steps_of xs) [] (start_of (limits_after default_limits xs)) text)
     (continued-nil ls)
-    (subst (λ (x : Limits). ArePerformed (steps_of (continued [] ls)) []
-    (start_of (limits_after x (continued [] ls))) text) same
-    (subst (λ (bs : List ℕ). ArePerformed (steps_of (continued bs ls)) []
-    (start_of (limits_after k (continued bs ls))) text) l p))
+    (subst (λ (x : Limits). ArePerformed (steps_of (text_before [] ls)) []
+    (start_of (limits_after x (text_before [] ls))) text) same
+    (subst (λ (bs : List ℕ). ArePerformed (steps_of (text_before bs ls)) []
+    (start_of (limits_after k (text_before bs ls))) text) l p))
 printed_from_start (Steps player) line h l script text p = absurd (let f : None ≡ Some default_limits = h in cc)
 
 -- ---- a script was played, and its writer flushed

@@ -7,13 +7,13 @@ use Rattle.std.specs.Prelude.{OnOk}
 use Rattle.std.specs.Option.{is_some}
 use Rattle.std.specs.Io.KnownBytes.{Appends, Consumes, Keeps, IsAtEnd, ReadConsumes}
 use Rattle.halld.specs.declared.header.Limits.{Limits}
-use Rattle.halld.specs.declared.script.Step.{Step}
+use Rattle.halld.specs.declared.script.ScriptStep.{ScriptStep}
 use Rattle.halld.specs.declared.entry.PlayFault.{PlayFault}
 use Rattle.halld.specs.declared.reader.Stage.{Stage}
 use Rattle.halld.specs.declared.reader.Stage.TheVariants.{Head, Steps}
 use Rattle.halld.specs.Script.{step_of}
 use Rattle.halld.specs.Headers.{default_limits, with_header, unless_none, after_line}
-use Rattle.halld.specs.Lines.{continued, lines_of, is_step, limits_after}
+use Rattle.halld.specs.Lines.{text_before, lines_of, is_step, limits_after}
 use Rattle.halld.specs.Stages.{head_of}
 use Rattle.halld.specs.Steps.{IsPerformed}
 use Rattle.halld.specs.Printed.{with_step, steps_of, start_of, ArePerformed, hosts_of, server_of}
@@ -52,7 +52,7 @@ server_on : {L : Type 0} (s : Stage L) (more : List (List ℕ)) → head_of s �
 server_on (Head l) more none = absurd (cc)
 server_on (Steps player) more none = refl
 
-step_prints : {L : Type 0} (s s' : Stage L) (line : List ℕ) (step : Step) (first : List ℕ)
+step_prints : {L : Type 0} (s s' : Stage L) (line : List ℕ) (step : ScriptStep) (first : List ℕ)
     → step_of line ≡ Some step → head_of s' ≡ None
     → IsPerformed step (hosts_of s) (server_of s []) first (hosts_of s') (server_of s' []) → Passes s line s' first
 step_prints s s' line step first is none performed more rest prints =
@@ -70,7 +70,7 @@ step_prints s s' line step first is none performed more rest prints =
       refl,
     ))
 
-pub after_step : {T L : Type 0} (r : Result T PlayFault) (s s' : Stage L) (line : List ℕ) (step : Step)
+pub after_step : {T L : Type 0} (r : Result T PlayFault) (s s' : Stage L) (line : List ℕ) (step : ScriptStep)
     (x y : Option (List ℕ)) → step_of line ≡ Some step → OnOk r (head_of s' ≡ None) → OnOk r ((text : List ℕ)
     × IsPerformed step (hosts_of s) (server_of s []) text (hosts_of s') (server_of s' []) × Appends x y text)
     → OnOk r (Writes x y (Passes s line s'))
@@ -121,7 +121,7 @@ in_line s line line' b x no_end grown = (
   λ rest text prints.
       let next : PrintsAhead s (line ++ b ∷ []) rest text = subst (λ l. PrintsAhead s l rest text) grown prints in
       subst (λ ls. Prints s ls text) (continued-continued line b (lines_of rest)
-      ∙ ap (continued line) (sym (cond-false _ _ _ (ne_eqb b 10 no_end)))) next,
+      ∙ ap (text_before line) (sym (cond-false _ _ _ (ne_eqb b 10 no_end)))) next,
 )
 
 -- ---- a block

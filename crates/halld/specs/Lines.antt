@@ -7,14 +7,14 @@ use Rattle.halld.specs.Script.{step_of}
 use Rattle.halld.specs.Headers.{default_limits, with_header, after_line, are_good}
 
 -- a text stands before the first line
-abbrev pub continued : List ℕ → List (List ℕ) → List (List ℕ)
-continued text [] = []
-continued text (line ∷ more) = (text ++ line) ∷ more
+abbrev pub text_before : List ℕ → List (List ℕ) → List (List ℕ)
+text_before text [] = []
+text_before text (line ∷ more) = (text ++ line) ∷ more
 
 -- LF parts the lines; the last one is what stands after the last LF
 abbrev pub lines_of : List ℕ → List (List ℕ)
 lines_of [] = [] ∷ []
-lines_of (b ∷ bs) = if b == 10 then [] ∷ lines_of bs else continued (b ∷ []) (lines_of bs)
+lines_of (b ∷ bs) = if b == 10 then [] ∷ lines_of bs else text_before (b ∷ []) (lines_of bs)
 
 abbrev pub is_step : List ℕ → Bool
 is_step line = is_some (step_of line)
@@ -71,4 +71,4 @@ told_after head n lines = record { bad = first_bad head n lines; is_set = is_set
 
 -- the same where some lines have ended, the present line has begun, and this rest of the script comes
 abbrev pub told_ahead : Option Limits → ℕ → List ℕ → List ℕ → Told
-told_ahead head ended line rest = told_after head (ended + 1) (continued line (lines_of rest))
+told_ahead head ended line rest = told_after head (ended + 1) (text_before line (lines_of rest))

@@ -1,33 +1,33 @@
 -- What a step gave, as it is written: this project's own choice.
 use Rattle.std.specs.Prelude.{ℕ, zero, suc, Bool, false, true, List, [], ◌∷◌, ◌++◌, Option, Some, None}
 use Rattle.std.specs.Prelude.{Result, Ok, Err, codes, decimal, flat_map, filter, slice_index_or}
-use Rattle.line_grammar.specs.Lines.{ended}
-use Rattle.chronicle.specs.declared.names.SessionId.{SessionId}
-use Rattle.chronicle.specs.declared.names.RecordNumber.{RecordNumber}
-use Rattle.ledger.specs.declared.out.Done.{Done}
-use Rattle.ledger.specs.declared.out.Hung.{Hung}
+use Rattle.line_grammar.specs.Lines.{ended_lines}
+use Rattle.chronicle.specs.declared.ids.SessionId.{SessionId}
+use Rattle.chronicle.specs.declared.ids.RecordNumber.{RecordNumber}
+use Rattle.ledger.specs.declared.outcomes.Done.{Done}
+use Rattle.ledger.specs.declared.outcomes.Hung.{Hung}
 use Rattle.deliveries.specs.Text.{delivery_text}
 use Rattle.interleave.specs.declared.event.Event.{Event}
 use Rattle.interleave.specs.declared.event.Event.TheVariants as event
 use Rattle.interleave.specs.declared.event.Note.{Note}
 use Rattle.interleave.specs.declared.event.Note.TheVariants as note
 use Rattle.interleave.specs.declared.event.StepRefusal.{StepRefusal}
-use Rattle.halld.specs.Escapes.{printed}
-use Rattle.halld.specs.Lines.{continued}
+use Rattle.halld.specs.Escapes.{printed_text}
+use Rattle.halld.specs.Lines.{text_before}
 use Rattle.halld.specs.Refusals.{refusal_name}
 
 -- a word as a line
-abbrev pub worded : List ℕ → List ℕ
-worded word = word ++ 10 ∷ []
+abbrev pub word_line : List ℕ → List ℕ
+word_line word = word ++ 10 ∷ []
 
 -- a label and a number on a line
-abbrev pub numbered : List ℕ → ℕ → List ℕ
-numbered label n = label ++ (codes " " ++ (decimal n ++ 10 ∷ []))
+abbrev pub label_line : List ℕ → ℕ → List ℕ
+label_line label n = label ++ (codes " " ++ (decimal n ++ 10 ∷ []))
 
 -- the label and the number of a record, and each session that missed it
 abbrev pub done_text : List ℕ → Done → List ℕ
-done_text label done = numbered label done.number ++ flat_map
-    (λ (s : SessionId). numbered (codes "missed") s) done.missed
+done_text label done = label_line label done.number ++ flat_map
+    (λ (s : SessionId). label_line (codes "missed") s) done.missed
 
 -- whether the session missed its last item
 abbrev pub missed_word : Bool → List ℕ
@@ -39,12 +39,12 @@ hung_text hung = codes "hung " ++ (decimal hung.number ++ (missed_word hung.miss
 
 -- a label, and the number of a record or that there is none
 abbrev pub chosen_text : List ℕ → Option RecordNumber → List ℕ
-chosen_text label None = label ++ worded (codes " none")
-chosen_text label (Some number) = numbered label number
+chosen_text label None = label ++ word_line (codes " none")
+chosen_text label (Some number) = label_line label number
 
 -- a line that was due to a session
 abbrev pub line_text : ℕ → List ℕ → List ℕ
-line_text session line = decimal session ++ (codes "> " ++ (printed line ++ 10 ∷ []))
+line_text session line = decimal session ++ (codes "> " ++ (printed_text line ++ 10 ∷ []))
 
 abbrev pub is_nonempty : List ℕ → Bool
 is_nonempty [] = false
@@ -52,28 +52,28 @@ is_nonempty (b ∷ bs) = true
 
 -- each line that ends in a text, an empty one apart, with what stands before the text
 abbrev pub lines_after : ℕ → List ℕ → List ℕ → List ℕ
-lines_after session line text = flat_map (line_text session) (filter is_nonempty (continued line (ended text)))
+lines_after session line text = flat_map (line_text session) (filter is_nonempty (text_before line (ended_lines text)))
 
 -- of a step of a session that has this host
 abbrev pub note_text : ℕ → List ℕ → Note → List ℕ
-note_text session host (note.Session opened) = numbered (codes "session") opened
-note_text session host (note.Read count) = numbered (codes "read") count
-note_text session host note.Picked = worded (codes "picked")
-note_text session host (note.Record number) = numbered (codes "record") number
-note_text session host (note.Put s) = numbered (codes "put") s
-note_text session host (note.Missed s) = numbered (codes "missed") s
-note_text session host (note.Done done) = numbered (codes "done") done.number
-note_text session host note.Back = worded (codes "back")
+note_text session host (note.Session opened) = label_line (codes "session") opened
+note_text session host (note.Read count) = label_line (codes "read") count
+note_text session host note.Picked = word_line (codes "picked")
+note_text session host (note.Record number) = label_line (codes "record") number
+note_text session host (note.Put s) = label_line (codes "put") s
+note_text session host (note.Missed s) = label_line (codes "missed") s
+note_text session host (note.Done done) = label_line (codes "done") done.number
+note_text session host note.Back = word_line (codes "back")
 note_text session host (note.Item item) = lines_after session [] (delivery_text item host)
-note_text session host note.Empty = worded (codes "empty")
+note_text session host note.Empty = word_line (codes "empty")
 note_text session host (note.Hung hung) = hung_text hung
 note_text session host (note.Swept number) = chosen_text (codes "sweep") number
 note_text session host (note.Ticked number) = chosen_text (codes "tick") number
-note_text session host (note.Left count) = numbered (codes "left") count
+note_text session host (note.Left count) = label_line (codes "left") count
 
 -- why a step was refused
 abbrev pub refused_text : StepRefusal → List ℕ
-refused_text refusal = codes "refused " ++ worded (refusal_name refusal)
+refused_text refusal = codes "refused " ++ word_line (refusal_name refusal)
 
 -- what a step of a session that has this host gave, or why it was refused
 abbrev pub answer_text : ℕ → List ℕ → Result Note StepRefusal → List ℕ

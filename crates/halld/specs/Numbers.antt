@@ -4,7 +4,7 @@ use Rattle.std.specs.Prelude.{[], ◌∷◌, fold, Option, Some, None, pos}
 use Rattle.std.specs.List.{list_all}
 use Rattle.std.specs.Char.{is_ascii_digit}
 use Rattle.std.specs.Option.{option_map}
-use Rattle.chronicle.specs.declared.names.Moment.{Moment}
+use Rattle.chronicle.specs.declared.ids.Moment.{Moment}
 
 -- what decimal digits are worth; leading zeros count for nothing
 abbrev pub value_of : List ℕ → ℕ

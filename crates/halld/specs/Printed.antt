@@ -3,20 +3,20 @@ use Rattle.std.specs.Prelude.{◌≡◌, ℕ, List, [], ◌∷◌, ◌++◌, Opt
 use Rattle.std.specs.Io.KnownBytes.{Appends}
 use Rattle.interleave.specs.State.{State, empty_state}
 use Rattle.halld.specs.declared.header.Limits.{Limits}
-use Rattle.halld.specs.declared.script.Step.{Step}
+use Rattle.halld.specs.declared.script.ScriptStep.{ScriptStep}
 use Rattle.halld.specs.declared.reader.Stage.{Stage}
 use Rattle.halld.specs.declared.reader.Stage.TheVariants.{Head, Steps}
 use Rattle.halld.specs.Script.{step_of}
 use Rattle.halld.specs.Headers.{settings_of}
-use Rattle.halld.specs.Lines.{continued, lines_of, limits_after, limits_of}
+use Rattle.halld.specs.Lines.{text_before, lines_of, limits_after, limits_of}
 use Rattle.halld.specs.Steps.{IsPerformed}
 
-abbrev pub with_step : Option Step → List Step → List Step
+abbrev pub with_step : Option ScriptStep → List ScriptStep → List ScriptStep
 with_step None more = more
 with_step (Some step) more = step ∷ more
 
 -- the steps that lines write, in order
-abbrev pub steps_of : List (List ℕ) → List Step
+abbrev pub steps_of : List (List ℕ) → List ScriptStep
 steps_of [] = []
 steps_of (line ∷ more) = with_step (step_of line) (steps_of more)
 
@@ -25,7 +25,7 @@ abbrev pub start_of : Limits → State
 start_of l = empty_state l.records (settings_of l) l.sendq l.workers
 
 -- steps are performed in turn, from a state with the hosts of its sessions, and print a text
-abbrev pub ArePerformed : List Step → List (List ℕ) → State → List ℕ → Type 0
+abbrev pub ArePerformed : List ScriptStep → List (List ℕ) → State → List ℕ → Type 0
 ArePerformed [] hosts m text = text ≡ []
 ArePerformed (step ∷ more) hosts m text =
     (first : List ℕ) × (rest : List ℕ) × (hosts' : List (List ℕ)) × (k : State)
@@ -52,7 +52,7 @@ Prints stage lines text = ArePerformed (steps_of lines) (hosts_of stage) (server
 
 -- the same where a line has begun, and this rest of the script comes
 abbrev pub PrintsAhead : {L : Type 0} → Stage L → List ℕ → List ℕ → List ℕ → Type 0
-PrintsAhead stage line rest text = Prints stage (continued line (lines_of rest)) text
+PrintsAhead stage line rest text = Prints stage (text_before line (lines_of rest)) text
 
 -- what a writer holds grows by a text of which this holds
 abbrev pub Writes : Option (List ℕ) → Option (List ℕ) → (List ℕ → Type 0) → Type 0

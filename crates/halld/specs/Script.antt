@@ -5,8 +5,8 @@ use Rattle.std.specs.Str.{bytes_eq}
 use Rattle.std.specs.Option.{option_map}
 use Rattle.line_grammar.specs.Lines.{before_space, after_space}
 use Rattle.casemapping.specs.Names.{host_shape}
-use Rattle.chronicle.specs.declared.names.SessionId.{SessionId}
-use Rattle.chronicle.specs.declared.names.Moment.{Moment}
+use Rattle.chronicle.specs.declared.ids.SessionId.{SessionId}
+use Rattle.chronicle.specs.declared.ids.Moment.{Moment}
 use Rattle.chronicle.specs.declared.why.Why.{Why}
 use Rattle.chronicle.specs.declared.why.Why.TheVariants as why
 use Rattle.chronicle.specs.Reasons as reason
@@ -14,13 +14,13 @@ use Rattle.interleave.specs.declared.worker.WorkerId.{WorkerId}
 use Rattle.interleave.specs.declared.event.Event.TheVariants as event
 use Rattle.interleave.specs.Steps.{IsWellShaped}
 use Rattle.halld.specs.Numbers.{number_below, moment_of}
-use Rattle.halld.specs.Escapes.{unescaped}
-use Rattle.halld.specs.declared.script.Step.{Step}
-use Rattle.halld.specs.declared.script.Step.TheVariants as step
+use Rattle.halld.specs.Escapes.{text_octets}
+use Rattle.halld.specs.declared.script.ScriptStep.{ScriptStep}
+use Rattle.halld.specs.declared.script.ScriptStep.TheVariants as step
 use Rattle.halld.specs.declared.script.Plain.{Plain}
 use Rattle.halld.specs.declared.script.Plain.TheVariants as plain
-use Rattle.halld.specs.declared.script.Verb.{Verb}
-use Rattle.halld.specs.declared.script.Verb.TheVariants as verb
+use Rattle.halld.specs.declared.script.StepVerb.{StepVerb}
+use Rattle.halld.specs.declared.script.StepVerb.TheVariants as verb
 
 -- what two readings make together, where both are there
 abbrev pub both : {A B C : Type 0} → (A → B → C) → Option A → Option B → Option C
@@ -48,7 +48,7 @@ plain_of word =
     else None
 
 -- the step that a line's first word asks for
-abbrev pub verb_of : List ℕ → Option Verb
+abbrev pub verb_of : List ℕ → Option StepVerb
 verb_of word =
     if bytes_eq word (codes "connect") then Some verb.Connect
     else if bytes_eq word (codes "feed") then Some verb.Feed
@@ -77,22 +77,22 @@ why_of word =
     else None
 
 -- what stands between a quote at the front and a quote at the end
-abbrev pub unquoted : List ℕ → Option (List ℕ)
-unquoted [] = None
-unquoted (q ∷ more) = if q == 34 && slice_index more (length more - 1) == 34 then Some (take (length more - 1) more)
+abbrev pub in_quotes : List ℕ → Option (List ℕ)
+in_quotes [] = None
+in_quotes (q ∷ more) = if q == 34 && slice_index more (length more - 1) == 34 then Some (take (length more - 1) more)
     else None
 
 abbrev pub text_of : Option (List ℕ) → Option (List ℕ)
 text_of None = None
-text_of (Some text) = unescaped text
+text_of (Some text) = text_octets text
 
 -- W S WORD MS
-abbrev pub hang_of : Option WorkerId → Option SessionId → Option Why → Option Moment → Option Step
+abbrev pub hang_of : Option WorkerId → Option SessionId → Option Why → Option Moment → Option ScriptStep
 hang_of (Some worker) (Some session) (Some why) (Some moment) = Some (step.One (event.Hang worker session why moment))
 hang_of worker session why moment = None
 
 -- what follows the first word makes the step: W S, W MS, W, S, W S WORD MS, S MS, or MS
-abbrev pub plain_step : Plain → List ℕ → Option Step
+abbrev pub plain_step : Plain → List ℕ → Option ScriptStep
 plain_step plain.Pick words = both (λ worker session. step.One (event.Pick worker session))
     (worker_of (before_space words)) (session_of (after_space words))
 plain_step plain.Begin words = both (λ worker moment. step.One (event.Begin worker moment))
@@ -118,23 +118,23 @@ plain_step plain.Tick words = both (λ worker moment. step.One (event.Tick worke
 plain_step plain.Beat words = option_map (λ moment. step.Beat moment) (moment_of words)
 
 -- HOST MS, S "TEXT", or another
-abbrev pub step_with : Verb → List ℕ → Option Step
+abbrev pub step_with : StepVerb → List ℕ → Option ScriptStep
 step_with verb.Connect words = both (λ host moment. step.One (event.Connect host moment))
     (host_of (before_space words)) (moment_of (after_space words))
 step_with verb.Feed words = both (λ session octets. step.One (event.Feed session octets))
-    (session_of (before_space words)) (text_of (unquoted (after_space words)))
+    (session_of (before_space words)) (text_of (in_quotes (after_space words)))
 step_with (verb.Plain plain) words = plain_step plain words
 
-abbrev pub step_by : Option Verb → List ℕ → Option Step
+abbrev pub step_by : Option StepVerb → List ℕ → Option ScriptStep
 step_by None words = None
 step_by (Some verb) words = step_with verb words
 
 -- the step that a line writes, words parted by one space
-abbrev pub step_of : List ℕ → Option Step
+abbrev pub step_of : List ℕ → Option ScriptStep
 step_of line = step_by (verb_of (before_space line)) (after_space line)
 
 -- the host of a connect has a host's shape
-abbrev pub NamesHost : Step → Type 0
+abbrev pub NamesHost : ScriptStep → Type 0
 NamesHost (step.One event) = IsWellShaped event
 NamesHost (step.Do session moment) = Unit {0}
 NamesHost (step.Tidy moment) = Unit {0}

@@ -10,8 +10,8 @@ use Rattle.interleave.specs.declared.event.Note.TheVariants as note
 use Rattle.interleave.specs.declared.event.StepRefusal.{StepRefusal}
 use Rattle.interleave.specs.State.{State}
 use Rattle.interleave.specs.Steps.{IsStep}
-use Rattle.halld.specs.declared.script.Step.{Step}
-use Rattle.halld.specs.declared.script.Step.TheVariants as step
+use Rattle.halld.specs.declared.script.ScriptStep.{ScriptStep}
+use Rattle.halld.specs.declared.script.ScriptStep.TheVariants as step
 use Rattle.halld.specs.Notes.{named_by, host_of, opened_by, answer_text, whole_text}
 
 abbrev pub Answer : Type 0
@@ -132,7 +132,7 @@ IsDrained session host m text k =
 -- ---- steps
 
 -- the state with the hosts of all sessions that were opened, the step's text, and both after it
-abbrev pub IsPerformed : Step → List (List ℕ) → State → List ℕ → List (List ℕ) → State → Type 0
+abbrev pub IsPerformed : ScriptStep → List (List ℕ) → State → List ℕ → List (List ℕ) → State → Type 0
 IsPerformed (step.One e) hosts m text hosts' k =
     (a : Answer) × IsStep m e a k × (hosts' ≡ hosts ++ opened_by e a)
     × (text ≡ answer_text (named_by e) (host_of hosts (named_by e)) a)

@@ -3,14 +3,14 @@ ghost use Rattle.std.specs.Prelude.{◌≡◌, ◌++◌, None, Some, IfOk, IsErr
 ghost use Rattle.std.specs.Prelude.{ℕ, List, ◌∷◌, ◌<◌};
 ghost use Rattle.std.specs.Char.{digit_char};
 ghost use Rattle.std.specs.Io.KnownBytes.{prepend_known};
-ghost use Rattle.halld.specs.Escapes.{printed_octet, unescaped, spelled, hexadecimal, escaped_octet, HasDigit};
+ghost use Rattle.halld.specs.Escapes.{printed_octet, text_octets, octets_from, hexadecimal, escaped_octet, HasDigit};
 
 use crate::script::StepFault;
 use std::alloc::{AllocError, Global};
 
 /// Where the reading of a text stands.
 #[derive(Clone, Copy)]
-pub(crate) enum Place {
+pub(crate) enum EscapePlace {
     /// Between two octets.
     Between,
     /// After a backslash.
@@ -47,60 +47,63 @@ fn escaped_octet(octet: u8) -> Option<u8>
 
 /// Reads one more octet of a text and adds the octet that ends there, if one does, to `octets`.
 #[tactic(auto, using(crate::proofs::Reading::plain, crate::proofs::Reading::some_letter, crate::proofs::Reading::second_digit))]
-fn next_place(place: Place, octet: u8, octets: &mut Vec<u8>) -> Result<Place, StepFault>
+fn next_place(place: EscapePlace, octet: u8, octets: &mut Vec<u8>) -> Result<EscapePlace, StepFault>
     requires { HasDigit place }
     ensures digit { IfOk result HasDigit }
     ensures ok { IfOk result (λ after. (rest : List ℕ) → prepend_known octets.new.items
-        (spelled after rest) ≡ prepend_known octets.old.items (spelled place (octet ∷ rest))) }
+        (octets_from after rest)
+        ≡ prepend_known octets.old.items (octets_from place (octet ∷ rest))) }
     ensures bad { IsErrOf result StepFault.Bad → (rest : List ℕ)
-        → spelled place (octet ∷ rest) ≡ None }
+        → octets_from place (octet ∷ rest) ≡ None }
 {
     match place {
-        Place::Between => match octet {
-            b'\\' => Ok(Place::Escape),
+        EscapePlace::Between => match octet {
+            b'\\' => Ok(EscapePlace::Escape),
             b'"' => Err(StepFault::Bad),
             _ => {
                 octets.push(octet)?;
-                Ok(Place::Between)
+                Ok(EscapePlace::Between)
             }
         },
-        Place::Escape => {
+        EscapePlace::Escape => {
             if octet == b'x' {
-                return Ok(Place::FirstDigit);
+                return Ok(EscapePlace::FirstDigit);
             }
             let Some(escaped) = escaped_octet(octet) else {
                 return Err(StepFault::Bad);
             };
             octets.push(escaped)?;
-            Ok(Place::Between)
+            Ok(EscapePlace::Between)
         }
-        Place::FirstDigit => match hexadecimal(octet) {
-            Some(digit) => Ok(Place::SecondDigit(digit)),
+        EscapePlace::FirstDigit => match hexadecimal(octet) {
+            Some(digit) => Ok(EscapePlace::SecondDigit(digit)),
             None => Err(StepFault::Bad),
         },
-        Place::SecondDigit(high) => {
+        EscapePlace::SecondDigit(high) => {
             let Some(low) = hexadecimal(octet) else {
                 return Err(StepFault::Bad);
             };
             octets.push(16 * high + low)?;
-            Ok(Place::Between)
+            Ok(EscapePlace::Between)
         }
     }
 }
 
 /// The octets that a text between quotes spells.
 pub(crate) fn unescape(alloc: Global, text: &[u8]) -> Result<Vec<u8>, StepFault>
-    ensures ok { IfOk result (λ octets. unescaped text.now ≡ Some octets.items) }
-    ensures bad { IsErrOf result StepFault.Bad → unescaped text.now ≡ None }
+    ensures ok { IfOk result (λ octets. text_octets text.now ≡ Some octets.items) }
+    ensures bad { IsErrOf result StepFault.Bad → text_octets text.now ≡ None }
 {
     let mut octets = Vec::new(alloc);
-    let mut place = Place::Between;
+    let mut place = EscapePlace::Between;
     for octet in text {
         place = next_place(place, *octet, &mut octets)?;
     }
     match place {
-        Place::Between => Ok(octets),
-        Place::Escape | Place::FirstDigit | Place::SecondDigit(_) => Err(StepFault::Bad),
+        EscapePlace::Between => Ok(octets),
+        EscapePlace::Escape | EscapePlace::FirstDigit | EscapePlace::SecondDigit(_) => Err(
+            StepFault::Bad,
+        ),
     }
 }
 

@@ -6,7 +6,7 @@ ghost use Rattle.halld.specs.Headers.{setting_of, header_of, default_limits, wit
 ghost use Rattle.halld.specs.Headers.{account_after, with_accounts, with_header, motd_of};
 
 use crate::number::number;
-use crate::split::split_at_space;
+use crate::split_words::split_at_space;
 use line_grammar::{Octets, OctetsList};
 use registration::{AccountFault, Accounts};
 use std::alloc::{AllocError, Global};
@@ -160,7 +160,7 @@ impl Limits {
         }
         let (word, text) = split_at_space(line);
         if word == b"motd".as_slice() {
-            self.motd.push(Octets::copied(alloc, text)?)?;
+            self.motd.push(Octets::copy_of(alloc, text)?)?;
             return Ok(());
         }
         if word == b"account".as_slice() {

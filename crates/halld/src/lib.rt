@@ -34,7 +34,7 @@
 //!   `shutdown` or `timeout`: `hung N`, or `hung N missed` where its outbox was full;
 //! - `sweep W MS` accepts that a session that was shut is gone, and the worker holds the lock: `sweep N`, or
 //!   `sweep none`;
-//! - `tick W MS` accepts that whoever is quiet for 120 seconds is pinged, and the worker holds the lock: `tick N`,
+//! - `tick W MS` accepts that whoever is idle for 120 seconds is pinged, and the worker holds the lock: `tick N`,
 //!   or `tick none`;
 //! - `reap S` gives up a session that is gone: `left N`, with the number of items that nobody took.
 //!
@@ -44,7 +44,7 @@
 //!   it. A line that isn't begun is given back;
 //! - `tidy MS` has worker 1 sweep, put all and end: `sweep N` and the same, or `sweep none`;
 //! - `beat MS` has worker 1 tick, put all and end: `tick N` and the same, or `tick none`; then hang each session
-//!   that is quiet for 240 seconds, the lowest number first: the notes of `hang`. Where the tick is refused nobody
+//!   that is idle for 240 seconds, the lowest number first: the notes of `hang`. Where the tick is refused nobody
 //!   is hung;
 //! - `drain S` takes until there is nothing more.
 //!
@@ -52,7 +52,6 @@
 //! stands as `\xhh`.
 #![tactic(auto)]
 
-mod alone;
 mod entry;
 mod escape;
 mod header;
@@ -62,9 +61,10 @@ mod player;
 mod reader;
 mod refusals;
 mod script;
-mod split;
+mod split_words;
 mod streams;
 mod words;
+mod worker_one;
 
 pub use entry::{PlayFault, play};
 pub use streams::{Input, Output};

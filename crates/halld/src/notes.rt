@@ -1,8 +1,8 @@
 //! What a step gave, as it is written.
 ghost use Rattle.std.specs.Prelude.{◌≡◌, ◌++◌, ◌∷◌, [], List, ℕ, OnOk, IfOk};
 ghost use Rattle.deliveries.specs.Text.{delivery_text};
-ghost use Rattle.halld.specs.Escapes.{printed};
-ghost use Rattle.halld.specs.Notes.{worded, numbered, done_text, hung_text, chosen_text, line_text};
+ghost use Rattle.halld.specs.Escapes.{printed_text};
+ghost use Rattle.halld.specs.Notes.{word_line, label_line, done_text, hung_text, chosen_text, line_text};
 ghost use Rattle.halld.specs.Notes.{lines_after, note_text, refused_text, answer_text, whole_text};
 
 use crate::escape::print_octet;
@@ -13,7 +13,7 @@ use std::alloc::{AllocError, Global};
 
 /// Adds a word as a line.
 fn write_word(out: &mut Vec<u8>, word: &str) -> Result<(), AllocError>
-    ensures { OnOk result (out.new.items ≡ out.old.items ++ worded word.now) }
+    ensures { OnOk result (out.new.items ≡ out.old.items ++ word_line word.now) }
 {
     out.extend_from_slice(word.as_bytes())?;
     out.push(b'\n')?;
@@ -27,7 +27,7 @@ fn write_number(
     label: &str,
     number: u64,
 ) -> Result<(), AllocError>
-    ensures { OnOk result (out.new.items ≡ out.old.items ++ numbered label.now number) }
+    ensures { OnOk result (out.new.items ≡ out.old.items ++ label_line label.now number) }
 {
     let text = format!(in alloc; "{label} {number}")?;
     out.extend_from_slice(text.as_bytes())?;
@@ -78,7 +78,7 @@ fn write_chosen(
 
 /// Adds octets as a note prints them.
 fn print_all(out: &mut Vec<u8>, octets: &[u8]) -> Result<(), AllocError>
-    ensures { OnOk result (out.new.items ≡ out.old.items ++ printed octets.now) }
+    ensures { OnOk result (out.new.items ≡ out.old.items ++ printed_text octets.now) }
 {
     for octet in octets {
         print_octet(out, *octet)?;

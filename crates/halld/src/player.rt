@@ -9,11 +9,11 @@ ghost use Rattle.halld.specs.Steps.{IsHungOut, IsBeat, IsDrained, IsPerformed};
 ghost use Rattle.halld.specs.Streams.{IsWrites};
 ghost use Rattle.halld.specs.Faults.{IsOutside};
 
-use crate::alone::{do_line, hang_late, tick, tidy};
 use crate::entry::PlayFault;
 use crate::notes::{notes_of, whole_notes};
-use crate::script::Step;
+use crate::script::ScriptStep;
 use crate::streams::Output;
+use crate::worker_one::{do_line, hang_late, tick, tidy};
 use interleave::{Event, Moment, Naming, Note, Play, SessionId, StepRefusal};
 use line_grammar::Octets;
 use std::alloc::{AllocError, Global};
@@ -246,7 +246,7 @@ impl<L: Naming> Player<L> {
     /// Does what a step of the script asks for.
     pub(crate) fn perform<W: Write + Drop>(
         &mut self,
-        step: Step,
+        step: ScriptStep,
         output: &mut Output<W>,
     ) -> Result<(), PlayFault>
         requires { NamesHost step }
@@ -258,20 +258,20 @@ impl<L: Naming> Player<L> {
         ensures cause { IfErr result (IsWrites output.old.failures output.new.failures) }
     {
         match step {
-            Step::One(event) => {
+            ScriptStep::One(event) => {
                 let _ = self.one(&event, output)?;
                 Ok(())
             }
-            Step::Do { session, moment } => {
+            ScriptStep::Do { session, moment } => {
                 let answer = do_line(&mut self.play, session, moment);
                 self.tell("record", &answer, output)
             }
-            Step::Tidy { moment } => {
+            ScriptStep::Tidy { moment } => {
                 let answer = tidy(&mut self.play, moment);
                 self.tell("sweep", &answer, output)
             }
-            Step::Drain { session } => self.drain(session, output),
-            Step::Beat { moment } => self.beat(moment, output),
+            ScriptStep::Drain { session } => self.drain(session, output),
+            ScriptStep::Beat { moment } => self.beat(moment, output),
         }
     }
 }

@@ -14,7 +14,7 @@ ghost use Rattle.halld.specs.Printed.{start_of, hosts_of, server_of, Prints, Pri
 use crate::entry::PlayFault;
 use crate::header::{HeaderFault, Limits};
 use crate::player::Player;
-use crate::script::{Step, StepFault, parse_step};
+use crate::script::{ScriptStep, StepFault, parse_step};
 use crate::streams::Output;
 use interleave::{Moment, Naming, Play, PlayRefusal, Register, Settings};
 use line_grammar::Octets;
@@ -54,9 +54,9 @@ fn settings_of(alloc: Global, limits: &Limits) -> Result<Settings, AllocError>
     ensures { IfOk result (λ settings. settings ≡ settings_of limits.now) }
 {
     Ok(Settings {
-        server: Octets::copied(alloc, SERVER)?,
-        info: Octets::copied(alloc, INFO)?,
-        version: Octets::copied(alloc, VERSION)?,
+        server: Octets::copy_of(alloc, SERVER)?,
+        info: Octets::copy_of(alloc, INFO)?,
+        version: Octets::copy_of(alloc, VERSION)?,
         created: Moment::new(0),
         motd: limits.motd.copy()?,
         accounts: limits.accounts.clone()?,
@@ -93,30 +93,6 @@ fn new_player<L: Naming>(
     }
 }
 
-/// A player that did what a script's first step asks for.
-fn begin<L: Naming, W: Write + Drop>(
-    alloc: Global,
-    register: Register<()>,
-    limits: &Limits,
-    step: Step,
-    output: &mut Output<W>,
-) -> Result<Player<L>, PlayFault>
-    requires named { register.table ≡ L.table }
-    requires empty { register.rows ≡ [] }
-    requires host { NamesHost step }
-    ensures ok { IfOk result (λ player. are_good limits.now ≡ true) }
-    ensures performed { IfOk result (λ player. (text : List ℕ)
-        × IsPerformed step [] (start_of limits.now) text player.hosts.items player.play
-        × Appends (W.contents output.old.inner) (W.contents output.new.inner) text) }
-    ensures fault { IfErr result (IsFaultOf (told_after (Some limits.now) 1 [])) }
-    ensures same { OnOk result (output.new.failures ≡ output.old.failures) }
-    ensures cause { IfErr result (IsWrites output.old.failures output.new.failures) }
-{
-    let mut player = new_player(alloc, register, limits)?;
-    player.perform(step, output)?;
-    Ok(player)
-}
-
 impl<L: Naming> Reader<L> {
     /// A reader at the start of a script.
     pub(crate) fn new(alloc: Global, register: Register<()>) -> Reader<L>
@@ -138,7 +114,11 @@ impl<L: Naming> Reader<L> {
 
     /// Does what a step asks for. The first one sets the server up.
     #[tactic(auto, using(crate::proofs::Faults::from_outside))]
-    fn step<W: Write + Drop>(&mut self, step: Step, output: &mut Output<W>) -> Result<(), PlayFault>
+    fn step<W: Write + Drop>(
+        &mut self,
+        step: ScriptStep,
+        output: &mut Output<W>,
+    ) -> Result<(), PlayFault>
         requires ready { IsReady L.table self.old.stage self.old.register }
         requires host { NamesHost step }
         ensures ready { OnOk result (IsReady L.table self.new.stage self.new.register) }
@@ -154,16 +134,10 @@ impl<L: Naming> Reader<L> {
         ensures same { OnOk result (output.new.failures ≡ output.old.failures) }
         ensures cause { IfErr result (IsWrites output.old.failures output.new.failures) }
     {
+        self.set_up()?;
         match &mut self.stage {
             Stage::Steps(player) => player.perform(step, output),
-            Stage::Head(limits) => {
-                let Some(register) = self.register.take() else {
-                    unreachable!();
-                };
-                let player = begin(self.alloc, register, limits, step, output)?;
-                self.stage = Stage::Steps(player);
-                Ok(())
-            }
+            Stage::Head(_) => unreachable!(),
         }
     }
 
@@ -288,9 +262,16 @@ impl<L: Naming> Reader<L> {
         Ok(())
     }
 
-    /// Whether the server can be set up, where no step came.
+    /// Sets the server up, where no step came.
     fn set_up(&mut self) -> Result<(), PlayFault>
         requires ready { IsReady L.table self.old.stage self.old.register }
+        ensures ready { OnOk result (IsReady L.table self.new.stage self.new.register) }
+        ensures head { OnOk result (head_of self.new.stage ≡ None) }
+        ensures hosts { OnOk result (hosts_of self.new.stage ≡ hosts_of self.old.stage) }
+        ensures server { OnOk result
+            (server_of self.new.stage [] ≡ server_of self.old.stage []) }
+        ensures line { self.new.line ≡ self.old.line }
+        ensures ended { self.new.ended ≡ self.old.ended }
         ensures good { OnOk result (is_set_after (head_of self.old.stage) [] ≡ true) }
         ensures fault { IfErr result (IsFaultOf (told_after (head_of self.old.stage) 1 [])) }
         ensures unasked { IfErr result (λ e. (n m : ℕ) → IsWrites n m e) }
@@ -299,7 +280,8 @@ impl<L: Naming> Reader<L> {
             let Some(register) = self.register.take() else {
                 unreachable!();
             };
-            let _: Player<L> = new_player(self.alloc, register, limits)?;
+            let player = new_player(self.alloc, register, limits)?;
+            self.stage = Stage::Steps(player);
         }
         Ok(())
     }

@@ -8,8 +8,8 @@ ghost use Rattle.halld.specs.declared.script.StepFault.TheVariants.{Memory};
 
 use crate::escape::unescape;
 use crate::number::moment;
-use crate::split::split_at_space;
-use crate::words::{session, unquoted, why, worker};
+use crate::split_words::split_at_space;
+use crate::words::{inside_quotes, session, why, worker};
 use casemapping::is_host;
 use interleave::{Event, Moment, SessionId, WorkerId};
 use line_grammar::Octets;
@@ -17,7 +17,7 @@ use std::alloc::{AllocError, AllocFailed, Global};
 
 /// A step of a script.
 #[derive(Drop)]
-pub(crate) enum Step {
+pub(crate) enum ScriptStep {
     /// One event.
     One(Event),
     /// Worker 1 carries out a session's next line.
@@ -76,7 +76,7 @@ enum Plain {
 
 /// The word at a step's front.
 #[derive(Clone, Copy)]
-enum Verb {
+enum StepVerb {
     Connect,
     Feed,
     Plain(Plain),
@@ -120,22 +120,22 @@ fn plain_of(word: &[u8]) -> Option<Plain>
 }
 
 /// The step that a line's first word asks for.
-fn verb_of(word: &[u8]) -> Option<Verb>
+fn verb_of(word: &[u8]) -> Option<StepVerb>
     ensures { result ≡ verb_of word.now }
 {
     if word == b"connect".as_slice() {
-        Some(Verb::Connect)
+        Some(StepVerb::Connect)
     } else if word == b"feed".as_slice() {
-        Some(Verb::Feed)
+        Some(StepVerb::Feed)
     } else {
-        Some(Verb::Plain(plain_of(word)?))
+        Some(StepVerb::Plain(plain_of(word)?))
     }
 }
 
 /// `HOST MS`.
-fn parse_connect(alloc: Global, words: &[u8]) -> Result<Step, StepFault>
-    ensures ok { IfOk result (λ step. step_with Verb.Connect words.now ≡ Some step) }
-    ensures bad { IsErrOf result StepFault.Bad → step_with Verb.Connect words.now ≡ None }
+fn parse_connect(alloc: Global, words: &[u8]) -> Result<ScriptStep, StepFault>
+    ensures ok { IfOk result (λ step. step_with StepVerb.Connect words.now ≡ Some step) }
+    ensures bad { IsErrOf result StepFault.Bad → step_with StepVerb.Connect words.now ≡ None }
     ensures host { IfOk result NamesHost }
 {
     let (host, milliseconds) = split_at_space(words);
@@ -145,30 +145,30 @@ fn parse_connect(alloc: Global, words: &[u8]) -> Result<Step, StepFault>
     let Some(moment) = moment(milliseconds) else {
         return Err(StepFault::Bad);
     };
-    let host = Octets::copied(alloc, host)?;
-    Ok(Step::One(Event::Connect { host, moment }))
+    let host = Octets::copy_of(alloc, host)?;
+    Ok(ScriptStep::One(Event::Connect { host, moment }))
 }
 
 /// `S "TEXT"`.
-fn parse_feed(alloc: Global, words: &[u8]) -> Result<Step, StepFault>
-    ensures ok { IfOk result (λ step. step_with Verb.Feed words.now ≡ Some step) }
-    ensures bad { IsErrOf result StepFault.Bad → step_with Verb.Feed words.now ≡ None }
+fn parse_feed(alloc: Global, words: &[u8]) -> Result<ScriptStep, StepFault>
+    ensures ok { IfOk result (λ step. step_with StepVerb.Feed words.now ≡ Some step) }
+    ensures bad { IsErrOf result StepFault.Bad → step_with StepVerb.Feed words.now ≡ None }
     ensures host { IfOk result NamesHost }
 {
     let (name, quoted) = split_at_space(words);
     let Some(session) = session(name) else {
         return Err(StepFault::Bad);
     };
-    let Some(text) = unquoted(quoted) else {
+    let Some(text) = inside_quotes(quoted) else {
         return Err(StepFault::Bad);
     };
     let octets = Octets::from_vec(unescape(alloc, text)?);
-    Ok(Step::One(Event::Feed { session, octets }))
+    Ok(ScriptStep::One(Event::Feed { session, octets }))
 }
 
 /// `W S`.
 fn parse_pick(words: &[u8]) -> Option<Event>
-    ensures { option_map (λ e. Step.One e) result ≡ plain_step Plain.Pick words.now }
+    ensures { option_map (λ e. ScriptStep.One e) result ≡ plain_step Plain.Pick words.now }
 {
     let (worker_name, session_name) = split_at_space(words);
     let worker = worker(worker_name)?;
@@ -187,7 +187,7 @@ fn worker_and_moment(words: &[u8]) -> Option<(WorkerId, Moment)>
 
 /// `W S WORD MS`.
 fn parse_hang(words: &[u8]) -> Option<Event>
-    ensures { option_map (λ e. Step.One e) result ≡ plain_step Plain.Hang words.now }
+    ensures { option_map (λ e. ScriptStep.One e) result ≡ plain_step Plain.Hang words.now }
 {
     let (worker_name, more) = split_at_space(words);
     let (session_name, last) = split_at_space(more);
@@ -205,26 +205,26 @@ fn parse_hang(words: &[u8]) -> Option<Event>
 }
 
 /// `S MS`.
-fn parse_do(words: &[u8]) -> Option<Step>
+fn parse_do(words: &[u8]) -> Option<ScriptStep>
     ensures { result ≡ plain_step Plain.Do words.now }
 {
     let (name, milliseconds) = split_at_space(words);
     let session = session(name)?;
     let moment = moment(milliseconds)?;
-    Some(Step::Do { session, moment })
+    Some(ScriptStep::Do { session, moment })
 }
 
 /// `W MS` of a tick.
-fn parse_tick(words: &[u8]) -> Option<Step>
+fn parse_tick(words: &[u8]) -> Option<ScriptStep>
     ensures value { result ≡ plain_step Plain.Tick words.now }
     ensures host { IfSome result NamesHost }
 {
     let (worker, moment) = worker_and_moment(words)?;
-    Some(Step::One(Event::Tick { worker, moment }))
+    Some(ScriptStep::One(Event::Tick { worker, moment }))
 }
 
 /// The step of a line, after a first word that takes no memory.
-fn parse_plain(plain: Plain, words: &[u8]) -> Option<Step>
+fn parse_plain(plain: Plain, words: &[u8]) -> Option<ScriptStep>
     ensures value { result ≡ plain_step plain words.now }
     ensures host { IfSome result NamesHost }
 {
@@ -255,31 +255,31 @@ fn parse_plain(plain: Plain, words: &[u8]) -> Option<Step>
             session: session(words)?,
         },
         Plain::Do => return parse_do(words),
-        Plain::Tidy => return Some(Step::Tidy {
+        Plain::Tidy => return Some(ScriptStep::Tidy {
             moment: moment(words)?,
         }),
-        Plain::Drain => return Some(Step::Drain {
+        Plain::Drain => return Some(ScriptStep::Drain {
             session: session(words)?,
         }),
         Plain::Tick => return parse_tick(words),
-        Plain::Beat => return Some(Step::Beat {
+        Plain::Beat => return Some(ScriptStep::Beat {
             moment: moment(words)?,
         }),
     };
-    Some(Step::One(event))
+    Some(ScriptStep::One(event))
 }
 
 /// The step that a line of a script, without its LF, writes.
-pub(crate) fn parse_step(alloc: Global, line: &[u8]) -> Result<Step, StepFault>
+pub(crate) fn parse_step(alloc: Global, line: &[u8]) -> Result<ScriptStep, StepFault>
     ensures ok { IfOk result (λ step. step_of line.now ≡ Some step) }
     ensures bad { IsErrOf result StepFault.Bad → step_of line.now ≡ None }
     ensures host { IfOk result NamesHost }
 {
     let (first, words) = split_at_space(line);
     match verb_of(first) {
-        Some(Verb::Connect) => parse_connect(alloc, words),
-        Some(Verb::Feed) => parse_feed(alloc, words),
-        Some(Verb::Plain(plain)) => parse_plain(plain, words).ok_or(StepFault::Bad),
+        Some(StepVerb::Connect) => parse_connect(alloc, words),
+        Some(StepVerb::Feed) => parse_feed(alloc, words),
+        Some(StepVerb::Plain(plain)) => parse_plain(plain, words).ok_or(StepFault::Bad),
         None => Err(StepFault::Bad),
     }
 }

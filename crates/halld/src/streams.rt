@@ -9,15 +9,15 @@ ghost use Rattle.std.specs.IoError.{error_kind};
 ghost use Rattle.halld.specs.Streams.{IsWrites};
 
 use crate::entry::PlayFault;
-use ghosts::{Change, Snapshot, apply};
+use snapshots::{GhostChange, Snapshot, apply};
 use std::io;
 use std::io::{ErrorKind, Read, Write};
 use std::marker::Model;
 
 // One more.
-struct Counts;
+struct CountsReads;
 
-impl Change<u64, ()> for Counts {
+impl GhostChange<u64, ()> for CountsReads {
     ghost use Rattle.std.specs.Prelude.{◌+◌};
 
     ghost changed = { λ n s. n + 1 };
@@ -65,11 +65,11 @@ impl<R: Read + Drop> Input<R> {
         ensures cause { IfErr result (λ e. error_kind e ≢ ErrorKind.Interrupted
             → self.old.failures < self.new.failures) }
     {
-        apply::<Counts, u64, ()>(&mut self.reads, &());
+        apply::<CountsReads, u64, ()>(&mut self.reads, &());
         let got = self.inner.read(buf);
         if let Err(error) = &got {
             if error.kind() != ErrorKind::Interrupted {
-                apply::<Counts, u64, ()>(&mut self.failures, &());
+                apply::<CountsReads, u64, ()>(&mut self.failures, &());
             }
         }
         got
@@ -111,12 +111,12 @@ impl<W: Write + Drop> Output<W> {
     }
 
     /// That the writer failed is counted.
-    fn failed(&mut self) -> PlayFault
+    fn count_failure(&mut self) -> PlayFault
         ensures inner { self.new.inner ≡ self.old.inner }
         ensures fault { result ≡ PlayFault.WriteFailed }
         ensures grows { self.old.failures < self.new.failures }
     {
-        apply::<Counts, u64, ()>(&mut self.failures, &());
+        apply::<CountsReads, u64, ()>(&mut self.failures, &());
         PlayFault::WriteFailed
     }
 
@@ -130,7 +130,7 @@ impl<W: Write + Drop> Output<W> {
     {
         match self.inner.write_all(notes) {
             Ok(()) => Ok(()),
-            Err(_) => Err(self.failed()),
+            Err(_) => Err(self.count_failure()),
         }
     }
 
@@ -142,7 +142,7 @@ impl<W: Write + Drop> Output<W> {
     {
         match self.inner.flush() {
             Ok(()) => Ok(()),
-            Err(_) => Err(self.failed()),
+            Err(_) => Err(self.count_failure()),
         }
     }
 }

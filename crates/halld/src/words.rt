@@ -1,7 +1,7 @@
 //! Words of a step.
 ghost use Rattle.std.specs.Prelude.{◌≡◌};
 ghost use Rattle.std.specs.Option.{option_map};
-ghost use Rattle.halld.specs.Script.{session_of, worker_of, why_of, unquoted};
+ghost use Rattle.halld.specs.Script.{session_of, worker_of, why_of, in_quotes};
 
 use crate::number::number;
 use interleave::{SessionId, Why, WorkerId};
@@ -46,8 +46,8 @@ pub(crate) fn why(word: &[u8]) -> Option<Why>
 }
 
 /// What stands between a quote at the front and a quote at the end.
-pub(crate) fn unquoted(text: &[u8]) -> Option<&[u8]>
-    ensures { option_map (λ inner. inner.now) result ≡ unquoted text.now }
+pub(crate) fn inside_quotes(text: &[u8]) -> Option<&[u8]>
+    ensures { option_map (λ inner. inner.now) result ≡ in_quotes text.now }
 {
     let (first, more) = text.split_first()?;
     let (last, inner) = more.split_last()?;

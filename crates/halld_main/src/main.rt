@@ -10,7 +10,7 @@ use clap::Error;
 use clap::error::ErrorKind;
 use halld::{Input, Output, PlayFault, play};
 use script::SCRIPT;
-use serving_options::{Asked, parse};
+use serving_options::{Subcommand, parse};
 use start::{Ended, check_options, serve_options, tell_reason};
 use std::alloc::AllocError;
 use std::fmt::Display;
@@ -98,10 +98,10 @@ fn main(rt: HostRuntime) -> ExitCode {
         return fault(&rt, PlayFault::Memory);
     };
     match parse(alloc, words.as_slice(), SCRIPT) {
-        Ok(Asked::Play) => play_standard(&rt),
-        Ok(Asked::Check(options)) => tell_ended(&rt, check_options(&rt, options)),
-        Ok(Asked::Account(name)) => print_account(&rt, name),
-        Ok(Asked::Serve(options)) => tell_ended(&rt, serve_options(&rt, options, rt.stdin())),
+        Ok(Subcommand::Play) => play_standard(&rt),
+        Ok(Subcommand::Check(options)) => tell_ended(&rt, check_options(&rt, options)),
+        Ok(Subcommand::Account(name)) => print_account(&rt, name),
+        Ok(Subcommand::Serve(options)) => tell_ended(&rt, serve_options(&rt, options, rt.stdin())),
         Err(error) => refuse(&rt, error),
     }
 }

@@ -5,7 +5,7 @@ use line_grammar::{Octets, OctetsList};
 use registration::{AccountFault, Accounts, Settings, is_well_set};
 use serving::{Clock, OpenGate, Options, ServeFault, SystemClock, listen, serve_with};
 use serving_options::{
-    FileFault, LineFault, ServeOptions, accounts_of, content_of, fault_of_line, faulty_line,
+    FileFault, ServeOptions, TextFault, accounts_of, content_of, fault_of_line, faulty_line,
     motd_of,
 };
 use std::alloc::{AllocError, Global};
@@ -37,7 +37,7 @@ pub(crate) enum Reason<'a> {
     /// The server's name.
     Name(&'a str),
     /// This line of the message of the day.
-    Line(usize, LineFault),
+    Line(usize, TextFault),
     /// The time at which the server is started.
     Time,
     /// A number.
@@ -95,11 +95,11 @@ impl<'a> Display for Reason<'a> {
 }
 
 /// What is said of a line of the message of the day.
-fn words_of(fault: LineFault) -> &'static str {
+fn words_of(fault: TextFault) -> &'static str {
     match fault {
-        LineFault::TooLong => "has more than 400 octets",
-        LineFault::EndsWithCr => "ends with CR",
-        LineFault::HasControl => "has NUL or CR",
+        TextFault::TooLong => "has more than 400 octets",
+        TextFault::EndsWithCr => "ends with CR",
+        TextFault::HasControl => "has NUL or CR",
     }
 }
 
@@ -194,9 +194,9 @@ fn settings<'a, R: Ticks + Copy + Drop + Alloc<A = Global>>(
 ) -> Result<Settings, Ended<'a>> {
     let alloc = rt.alloc();
     Ok(Settings {
-        server: Octets::copied(alloc, name.as_bytes())?,
-        info: Octets::copied(alloc, INFO)?,
-        version: Octets::copied(alloc, VERSION)?,
+        server: Octets::copy_of(alloc, name.as_bytes())?,
+        info: Octets::copy_of(alloc, INFO)?,
+        version: Octets::copy_of(alloc, VERSION)?,
         created: SystemClock::new(*rt).now(),
         motd,
         accounts,
@@ -228,7 +228,7 @@ fn tell_of<R: Eprint>(rt: &R, listener: Option<&TcpListener>, wanted: Option<Soc
 }
 
 /// What options say that files and the clock are needed for, well set.
-fn prepared<'a, R: Files + Ticks + Copy + Drop + Alloc<A = Global>>(
+fn prepare<'a, R: Files + Ticks + Copy + Drop + Alloc<A = Global>>(
     rt: &R,
     options: &ServeOptions<'a>,
 ) -> Result<Settings, Ended<'a>> {
@@ -279,7 +279,7 @@ pub(crate) fn check_options<'a, R>(rt: &R, options: ServeOptions<'a>) -> Ended<'
 where
     R: Ticks + Files + Print + Eprint + Alloc<A = Global> + Copy + Drop,
 {
-    let settings = match prepared(rt, &options) {
+    let settings = match prepare(rt, &options) {
         Ok(settings) => settings,
         Err(ended) => return ended,
     };
@@ -308,7 +308,7 @@ where
     R: Copy + Drop + Send + Sync + 'static,
     I: Read + Send + Drop + 'static,
 {
-    let settings = prepared(rt, &options)?;
+    let settings = prepare(rt, &options)?;
     let tcp = listener(rt, options.tcp)?;
     let ws = listener(rt, options.ws)?;
     let settings = well_set(options.name, settings)?;

@@ -4,7 +4,7 @@ use Rattle.chronicle.specs.declared.record.Kind.{Kind}
 use Rattle.chronicle.specs.declared.record.Kind.TheVariants.{Opened, Said, Hung, Gone, Ticked}
 use Rattle.chronicle.specs.History.{Rec, opened_by, sessions, said_by, accepted}
 use Rattle.registration.specs.declared.settings.Settings.{Settings}
-use Rattle.ledger.specs.Legal.{IsKind, IsLegal}
+use Rattle.book.specs.Legal.{IsKind, IsLegal}
 
 none_of : (h : List Rec) (k : Kind) (t : ℕ) → IsKind h k → sessions h < t → said_by k t ≡ []
 none_of h (Opened s host) t i l = refl

@@ -5,23 +5,23 @@ use Rattle.std.proofs.Common.{subst, ap, ◌∙◌, append-nil, append_assoc, eq
 use Rattle.std.proofs.lemmas.Bool.Decides.{nat_tests}
 use Rattle.chronicle.specs.declared.record.Kind.TheVariants.{Said}
 use Rattle.chronicle.specs.History.{Rec, is_quit, misses, sessions, shut}
-use Rattle.numerics.specs.Outgoing.{octets, spelled as untagged_of}
+use Rattle.numerics.specs.Outgoing.{octets, out_text as untagged_of}
 use Rattle.registration.specs.declared.caps.Caps.{Caps}
 use Rattle.registration.specs.declared.settings.Settings.{Settings}
 use Rattle.labels_batches.specs.declared.answers.Tagged.{Tagged}
 use Rattle.labels_batches.specs.declared.answers.AnswerTag.TheVariants.{Label}
 use Rattle.labels_batches.specs.Answers.{tagged_as}
-use Rattle.labels_batches.specs.Rendered.{ended, rendered, spelled_line, tag_block}
+use Rattle.labels_batches.specs.Rendered.{with_end, text_as, spelled_line, tag_block}
 use Rattle.labels_batches.specs.Whole.{LabelFirst, LoneOpensNone, SeveralAreClosed}
 use Rattle.record_laws.specs.Laws.{HearersStandOnce, NoLineOpensABatch, RecordsOpenNoOthers}
 use Rattle.roster.specs.LookBack.{caps}
 use Rattle.commands.specs.Asked.{asked_of}
-use Rattle.drafts.specs.Effects.{due}
-use Rattle.deeds.specs.Deeds.{facts, spelled, text}
+use Rattle.transactions.specs.Effects.{due}
+use Rattle.deeds.specs.Deeds.{facts, octets_for, text}
 use Rattle.deliveries.specs.declared.delivery.Delivery.{Delivery}
 use Rattle.deliveries.specs.declared.delivery.Delivery.TheVariants.{Lines, Last}
-use Rattle.deliveries.specs.Owed.{delivery, item, owed, reason, told}
-use Rattle.ledger.specs.Legal.{IsLegal}
+use Rattle.deliveries.specs.Owed.{delivery, item, owed, reason, told_text}
+use Rattle.book.specs.Legal.{IsLegal}
 use Rattle.interleave.specs.Laws.{BatchClosed, HeardOnce, IsRequest, LabelledFirst, LabelledOnce, LoneUnbatched}
 use Rattle.interleave.specs.Laws.{Request, answer_to, copies_of, effects_of, record_of, reply_to}
 use Rattle.interleave.proofs.Opened.{opened-once}
@@ -36,7 +36,7 @@ line-some : (cs : Caps) (moment : ℤ) (l : Tagged) (ys : List ℕ) → (b : ℕ
     × (spelled_line cs moment l ++ ys ≡ b ∷ bs)
 unfolding spelled_line octets
 line-some cs moment l ys =
-    let tags = ended (tag_block cs moment l) in
+    let tags = with_end (tag_block cs moment l) in
     let body = take 510 (untagged_of l.line) in let is = some (tags ++ body) (10 ∷ ys) in (
       is.0,
       is.1,
@@ -48,9 +48,9 @@ item-some : (n b : ℕ) (xs bs : List ℕ) → xs ≡ b ∷ bs → item n xs ≡
 item-some n b xs bs e = ap (item n) e ∙ ap (λ ys. Lines n ys ∷ []) (sym e)
 
 item-lines : (n : ℕ) (cs : Caps) (moment : ℤ) (ls : List Tagged) (l : Tagged) (more : List Tagged) → ls ≡ l ∷ more
-    → item n (rendered cs moment ls) ≡ Lines n (rendered cs moment ls) ∷ []
-item-lines n cs moment ls l more e = let is = line-some cs moment l (rendered cs moment more) in
-    item-some n is.0 (rendered cs moment ls) is.1 (ap (rendered cs moment) e ∙ is.2)
+    → item n (text_as cs moment ls) ≡ Lines n (text_as cs moment ls) ∷ []
+item-lines n cs moment ls l more e = let is = line-some cs moment l (text_as cs moment more) in
+    item-some n is.0 (text_as cs moment ls) is.1 (ap (text_as cs moment) e ∙ is.2)
 
 -- ---- what is owed grows
 
@@ -92,20 +92,20 @@ labelled-once label-first g history whole-legal q is =
     let before : nat_le s (sessions h) ≡ true = grind (arith, nat_tests) in
     let not_last : ((s == s) && is_quit q.piece) ≡ false = ap (λ b. b && is_quit q.piece) (eq-eqb s s refl)
     ∙ is.no_quit in
-    let words : text g fs k moment n s ≡ rendered cs moment ls =
-    ap (λ (o : _). spelled g fs s o es moment n s) is.counts ∙ ap
-    (λ b. rendered cs moment (cond b ls (map (tagged_as None) (due es s)))) (eq-eqb s s refl) in
-    let given : delivery g h k moment s ≡ Lines n (rendered cs moment ls) ∷ [] =
-    ap (λ b. cond b (Last n (reason k) ∷ []) (item n (told g h k moment s))) not_last
+    let words : text g fs k moment n s ≡ text_as cs moment ls =
+    ap (λ (o : _). octets_for g fs s o es moment n s) is.counts ∙ ap
+    (λ b. text_as cs moment (cond b ls (map (tagged_as None) (due es s)))) (eq-eqb s s refl) in
+    let given : delivery g h k moment s ≡ Lines n (text_as cs moment ls) ∷ [] =
+    ap (λ b. cond b (Last n (reason k) ∷ []) (item n (told_text g h k moment s))) not_last
     ∙ ap (λ b. item n (cond b (text g fs k moment n s) [])) before ∙ ap (item n) words
     ∙ item-lines n cs moment ls (tagged_as (Some (Label q.label)) first.first) first.later first.lines in
-    let now : owed g (record_of q ∷ h) s ≡ owed g h s ++ Lines n (rendered cs moment ls) ∷ [] =
+    let now : owed g (record_of q ∷ h) s ≡ owed g h s ++ Lines n (text_as cs moment ls) ∷ [] =
     ap (λ b. owed g h s ++ cond b [] (delivery g h k moment s))
     (either (misses (record_of q) s) (shut h s) is.met open_) ∙ ap (λ xs. owed g h s ++ xs) given in
     let more = grows g q.later (record_of q ∷ h) s in (
       more.0,
       ap (λ hs. owed g hs s) is.split ∙ more.1 ∙ ap (λ xs. xs ++ more.0) now
-          ∙ append_assoc (owed g h s) (Lines n (rendered cs moment ls) ∷ []) more.0,
+          ∙ append_assoc (owed g h s) (Lines n (text_as cs moment ls) ∷ []) more.0,
     )
 
 pub labelled-first : LabelFirst → LabelledFirst

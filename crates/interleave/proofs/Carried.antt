@@ -13,13 +13,13 @@ use Rattle.registration.specs.declared.settings.Settings.{Settings}
 use Rattle.deliveries.specs.declared.delivery.Delivery.{Delivery}
 use Rattle.deliveries.specs.declared.item.Item.{Item}
 use Rattle.deliveries.specs.Items.{deliveries}
-use Rattle.outbox.specs.Ring.{Waiting, has_room, with_put, put_into}
-use Rattle.ledger.specs.declared.plan.Planned.{Planned}
-use Rattle.ledger.specs.Legal.{IsKind, IsLegal}
+use Rattle.book.specs.Ring.{Waiting, has_room, with_put, put_into}
+use Rattle.book.specs.Planned.{Planned}
+use Rattle.book.specs.Legal.{IsKind, IsLegal}
 use Rattle.deliveries.specs.Owed.{delivery, owed}
-use Rattle.ledger.specs.Ledger.{Shown, outbox_at, is_here, IsPlan, planned, plan_of, begun}
-use Rattle.ledger.specs.Ledger.{delivered, dropped, put_next, put_all, finished, done}
-use Rattle.ledger.specs.Ledger as book
+use Rattle.book.specs.Ledger.{Shown, outbox_at, is_here, IsPlan, plan_part, plan_of, after_begin}
+use Rattle.book.specs.Ledger.{after_put, after_miss, put_next, put_all, after_end, after_all}
+use Rattle.book.specs.Ledger as book
 use Rattle.interleave.specs.State.{Seen, IsBoxOf, IsSoundAt}
 
 -- an outbox keeps what was taken and how much room there is; a session without one is owed nothing more
@@ -176,7 +176,7 @@ before_shut (r ∷ h) t b = shut_more (misses r t) (ends r.kind t) (shut h t) b
 
 -- a record that accepts nothing of t
 pub begun_carries : (m : Shown Waiting) (k : Kind) (moment : ℤ) (t : ℕ)
-    → (is_here m.outboxes t ≡ false → ShutBefore m.history t) → said_by k t ≡ [] → Carries m (begun m k moment) t
+    → (is_here m.outboxes t ≡ false → ShutBefore m.history t) → said_by k t ≡ [] → Carries m (after_begin m k moment) t
 begun_carries m k moment t f e =
     let r : Rec = fresh_record m.history moment k in
     record {
@@ -193,10 +193,10 @@ pub put_carries : (m : Shown Waiting) (p : Planned) (ps : List Planned) (t : ℕ
 put_carries m p ps t f =
     let o : Option Waiting = slice_index_or m.outboxes (p.session - 1) None in
     let here : (b : Bool) → has_room (outbox_at m.outboxes p.session) ≡ b
-    → Carries m (cond b (delivered m p ps) (dropped m p ps)) t =
+    → Carries m (cond b (after_put m p ps) (after_miss m p ps)) t =
     λ b.
     elim b as (λ (b : Bool). has_room (outbox_at m.outboxes p.session) ≡ b
-    → Carries m (cond b (delivered m p ps) (dropped m p ps)) t) [
+    → Carries m (cond b (after_put m p ps) (after_miss m p ps)) t) [
       | true ↦ λ e. record {
         accepted = refl;
         box = set_box m.outboxes (p.session - 1) (t - 1)
@@ -225,9 +225,9 @@ puts_carry m (p ∷ ps) t f =
     carries_then m n (put_all n ps) t one (puts_carry n ps t (λ away. one.before (f (sym stays ∙ away))))
 
 pub done_carries : (m : Shown Waiting) (k : Kind) (moment : ℤ) (t : ℕ)
-    → (is_here m.outboxes t ≡ false → ShutBefore m.history t) → said_by k t ≡ [] → Carries m (done m k moment) t
+    → (is_here m.outboxes t ≡ false → ShutBefore m.history t) → said_by k t ≡ [] → Carries m (after_all m k moment) t
 done_carries m k moment t f e =
-    let n : Shown Waiting = begun m k moment in
+    let n : Shown Waiting = after_begin m k moment in
     let one : Carries m n t = begun_carries m k moment t f e in
     let all = carries_then m n (put_all n (plan_of m.settings m.history k moment (length m.outboxes))) t one
     (puts_carry n (plan_of m.settings m.history k moment (length m.outboxes)) t
@@ -240,7 +240,7 @@ put_length : (m : Shown Waiting) (p : Planned) (ps : List Planned) → length (p
     ≡ length m.outboxes
 put_length m p ps =
     elim (has_room (outbox_at m.outboxes p.session)) as
-    (λ b. length (cond b (delivered m p ps) (dropped m p ps)).outboxes ≡ length m.outboxes) [
+    (λ b. length (cond b (after_put m p ps) (after_miss m p ps)).outboxes ≡ length m.outboxes) [
       | true ↦ simp length-set
       | false ↦ refl
     ]
@@ -253,8 +253,10 @@ puts_length : (m : Shown Waiting) (ps : List Planned) → length (put_all m ps).
 puts_length m [] = refl
 puts_length m (p ∷ ps) = puts_length (put_next m (p ∷ ps)) ps ∙ put_length m p ps
 
-pub done_length : (m : Shown Waiting) (k : Kind) (moment : ℤ) → length (done m k moment).outboxes ≡ length m.outboxes
-done_length m k moment = puts_length (begun m k moment) (plan_of m.settings m.history k moment (length m.outboxes))
+pub done_length : (m : Shown Waiting) (k : Kind) (moment : ℤ) → length (after_all m k moment).outboxes
+    ≡ length m.outboxes
+done_length m k moment =
+    puts_length (after_begin m k moment) (plan_of m.settings m.history k moment (length m.outboxes))
 
 -- ---- a plan has nothing for who was shut before
 
@@ -271,9 +273,9 @@ none_by m p t xs b i e =
     ]
 
 pub none_planned : (m : Shown Waiting) (ps : List Planned) (t : ℕ) → ShutBefore m.history t
-    → IsPlan m.settings m.history (length m.outboxes) ps → planned ps t ≡ []
+    → IsPlan m.settings m.history (length m.outboxes) ps → plan_part ps t ≡ []
 none_planned m [] t b i = refl
-none_planned m (p ∷ ps) t b i = none_by m p t (planned ps t) b i.3 (none_planned m ps t b i.4)
+none_planned m (p ∷ ps) t b i = none_by m p t (plan_part ps t) b i.3 (none_planned m ps t b i.4)
 
 pub next_carries : (m : Shown Waiting) (ps : List Planned) (t : ℕ)
     → (is_here m.outboxes t ≡ false → ShutBefore m.history t) → Carries m (put_next m ps) t
@@ -284,7 +286,7 @@ pub put_busy : (m : Shown Waiting) (ps : List Planned) → (put_next m ps).busy 
 put_busy m [] = refl
 put_busy m (p ∷ ps) =
     elim (has_room (outbox_at m.outboxes p.session)) as
-    (λ b. (cond b (delivered m p ps) (dropped m p ps)).busy ≡ m.busy) [
+    (λ b. (cond b (after_put m p ps) (after_miss m p ps)).busy ≡ m.busy) [
       | true ↦ refl
       | false ↦ refl
     ]
@@ -294,7 +296,7 @@ pub put_accepted : (m : Shown Waiting) (ps : List Planned) (t : ℕ) → accepte
 put_accepted m [] t = refl
 put_accepted m (p ∷ ps) t =
     elim (has_room (outbox_at m.outboxes p.session)) as
-    (λ b. accepted (cond b (delivered m p ps) (dropped m p ps)).history t ≡ accepted m.history t) [
+    (λ b. accepted (cond b (after_put m p ps) (after_miss m p ps)).history t ≡ accepted m.history t) [
       | true ↦ refl
       | false ↦ missed_accepted m.history p.session t
     ]

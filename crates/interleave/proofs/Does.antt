@@ -2,9 +2,9 @@
 use Rattle.std.proofs.Common.{◌≡◌, ℕ, ℤ, ◌+◌, ◌-◌, ◌<◌, ◌≤◌, true, List, [], ◌∷◌, length}
 use Rattle.std.proofs.Common.{slice_index_or, slice_set, Option, Some, None, arith, refl, sym, subst}
 use Rattle.chronicle.specs.declared.why.Why.{Why}
-use Rattle.outbox.specs.Ring.{Waiting, put_into}
-use Rattle.ledger.specs.Ledger.{Shown, Out, IsOut, is_here}
-use Rattle.ledger.specs.Ledger as book
+use Rattle.book.specs.Ring.{Waiting, put_into}
+use Rattle.book.specs.Ledger.{Shown, Out, IsOut, is_here}
+use Rattle.book.specs.Ledger as book
 use Rattle.interleave.specs.declared.worker.Place.TheVariants.{Home, Hand}
 use Rattle.interleave.specs.declared.play.Holder.{Holder}
 use Rattle.interleave.specs.declared.event.Event.TheVariants as event
@@ -14,7 +14,7 @@ use Rattle.interleave.specs.Refusals.{own_refusal, no_worker, not_holding}
 use Rattle.interleave.specs.declared.event.Note.{Note}
 use Rattle.interleave.specs.declared.event.Note.TheVariants as note
 use Rattle.interleave.specs.State.{State}
-use Rattle.interleave.specs.Steps.{picked, ended, back, ticked, reaped, IsTick}
+use Rattle.interleave.specs.Steps.{step_pick, step_end, back, step_tick, step_reap, IsTick}
 use Rattle.interleave.specs.Inbox.{Held, held_at, with_held, moved_to, ended_at, reaped_at}
 use Rattle.interleave.specs.Kept.{worker_of, state_of, IsKept}
 use Rattle.interleave.proofs.Free.{IsIn, session_in, worker_in, unlocked, holding, idle, busy}
@@ -52,7 +52,7 @@ pub record MayPick (m : Shown Waiting) (sendq : ℕ) (boxes : List Held) (jobs :
   pub session : IsInside m boxes s
   pub picks : IsKept m sendq boxes jobs holder
       → (state_of m sendq (with_held boxes s (moved_to (held_at boxes s) (Hand w)))
-      (slice_set jobs (w - 1) (Some s)) holder ≡ picked (state_of m sendq boxes jobs holder) w s)
+      (slice_set jobs (w - 1) (Some s)) holder ≡ step_pick (state_of m sendq boxes jobs holder) w s)
       × IsKept m sendq (with_held boxes s (moved_to (held_at boxes s) (Hand w)))
       (slice_set jobs (w - 1) (Some s)) holder
 
@@ -133,7 +133,7 @@ ticks m sendq boxes jobs holder w moment free = sweeps m sendq boxes jobs holder
 
 -- where somebody is to be pinged
 pub pings : (m k : State) (w : ℕ) (ts : List ℕ) (moment : ℤ) (n : Note) → (ts ≡ [] → ⊥) → book.HasRoom m.book
-    → n ≡ note.Ticked (Some (length m.book.history + 1)) → k ≡ ticked m w moment → IsTick m w ts moment n k
+    → n ≡ note.Ticked (Some (length m.book.history + 1)) → k ≡ step_tick m w moment → IsTick m w ts moment n k
 pings m k w [] moment n some room is new = absurd (some refl)
 pings m k w (t ∷ ts) moment n some room is new = (room, is, new)
 
@@ -146,9 +146,9 @@ connects m sendq boxes jobs holder host moment free = (unlocked (state_of m send
 pub record MayGiveUp (m : Shown Waiting) (sendq : ℕ) (boxes : List Held) (jobs : List (Option ℕ))
     (holder : Option Holder) (s : ℕ) : Type 0 where
   pub session : IsInside m boxes s
-  pub gives : (k : Shown Waiting) → k ≡ book.reaped m s → book.IsSound put_into k
+  pub gives : (k : Shown Waiting) → k ≡ book.after_reap m s → book.IsSound put_into k
       → (state_of k sendq (with_held boxes s (reaped_at (held_at boxes s) (queue_of
-      (state_of m sendq boxes jobs holder) s))) jobs holder ≡ reaped (state_of m sendq boxes jobs holder) s)
+      (state_of m sendq boxes jobs holder) s))) jobs holder ≡ step_reap (state_of m sendq boxes jobs holder) s)
       × IsKept k sendq (with_held boxes s
       (reaped_at (held_at boxes s) (queue_of (state_of m sendq boxes jobs holder) s))) jobs holder
 
@@ -212,7 +212,7 @@ may_end m sendq boxes jobs holder x w h i free =
     record { lock = l.0; none = all_put st l.1; kept = subst (IsKept m sendq boxes jobs) h i }
 
 pub ends_sweep : (m k : Shown Waiting) (sendq : ℕ) (boxes : List Held) (jobs : List (Option ℕ)) (x : Holder) (w : ℕ)
-    → MayEnd m sendq boxes jobs x w → slice_index_or jobs (w - 1) None ≡ None → k ≡ book.finished m
+    → MayEnd m sendq boxes jobs x w → slice_index_or jobs (w - 1) None ≡ None → k ≡ book.after_end m
     → book.IsSound put_into k → IsKept k sendq boxes jobs None
 ends_sweep m k sendq boxes jobs x w may none e sound =
     sweep_ended_kept m k sendq boxes jobs x.worker x.plan may.kept
@@ -226,13 +226,13 @@ plan_goes m sendq boxes jobs x w s may has =
 
 pub ends_line : (m k : Shown Waiting) (sendq : ℕ) (boxes : List Held) (jobs : List (Option ℕ)) (x : Holder)
     (w s : ℕ) → (may : MayEnd m sendq boxes jobs x w) → (has : slice_index_or jobs (w - 1) None ≡ Some s)
-    → (l : IsLinePlan m boxes s x.plan) → k ≡ book.finished m → book.IsSound put_into k
+    → (l : IsLinePlan m boxes s x.plan) → k ≡ book.after_end m → book.IsSound put_into k
     → (state_of k sendq (with_held boxes s (ended_at (held_at boxes s) l.turn)) (slice_set jobs (w - 1) None) None
-    ≡ ended (state_of m sendq boxes jobs (Some x)) w (Some s))
+    ≡ step_end (state_of m sendq boxes jobs (Some x)) w (Some s))
     × IsKept k sendq (with_held boxes s (ended_at (held_at boxes s) l.turn)) (slice_set jobs (w - 1) None) None
 ends_line m k sendq boxes jobs x w s may has l e sound =
     subst (λ (v : ℕ). (state_of k sendq (with_held boxes s (ended_at (held_at boxes s) l.turn))
-    (slice_set jobs (v - 1) None) None ≡ ended (state_of m sendq boxes jobs (Some x)) v (Some s))
+    (slice_set jobs (v - 1) None) None ≡ step_end (state_of m sendq boxes jobs (Some x)) v (Some s))
     × IsKept k sendq (with_held boxes s (ended_at (held_at boxes s) l.turn)) (slice_set jobs (v - 1) None) None)
     may.lock.holds
     (line_ended_kept m k sendq boxes jobs x.worker s x.plan l.turn may.kept (subst (λ (v : ℕ). 0 < v)

@@ -5,9 +5,9 @@ use Rattle.chronicle.specs.History.{Rec}
 use Rattle.registration.specs.declared.settings.Settings.{Settings}
 use Rattle.registration.specs.Settings.{IsWellSet}
 use Rattle.clean_records.specs.Clean.{IsCleanKind}
-use Rattle.outbox.specs.Ring.{Waiting, put_into}
-use Rattle.ledger.specs.Ledger.{Shown, held}
-use Rattle.ledger.specs.Ledger as book
+use Rattle.book.specs.Ring.{Waiting, put_into}
+use Rattle.book.specs.Ledger.{Shown, kept_total}
+use Rattle.book.specs.Ledger as book
 use Rattle.interleave.specs.Kept.{IsKept}
 
 no_job : (workers i s : ℕ) → slice_index_or (replicate workers None) i None ≡ Some s → ⊥
@@ -18,7 +18,7 @@ no_job (suc n) (suc i) s e = no_job n i s e
 empty_sound : (limit : ℕ) (settings : Settings) (m : Shown Waiting) → m ≡ book.empty_ledger limit settings
     → book.IsSound put_into m
 empty_sound limit settings m is =
-    let nobody : held [] ≡ 0 = refl in
+    let nobody : kept_total [] ≡ 0 = refl in
     subst (book.IsSound put_into) (sym is)
     (record {
       owed = λ t from to here. absurd (omega arith);

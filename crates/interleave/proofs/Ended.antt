@@ -5,10 +5,10 @@ use Rattle.std.proofs.lemmas.Option.{none-some}
 use Rattle.chronicle.specs.declared.record.Kind.{Kind}
 use Rattle.chronicle.specs.declared.record.Kind.TheVariants.{Opened, Said, Hung, Gone, Ticked}
 use Rattle.chronicle.specs.History.{Rec, actor, shut}
-use Rattle.chronicle.specs.Quiet.{is_tick}
+use Rattle.chronicle.specs.Idle.{is_tick}
 use Rattle.registration.specs.declared.settings.Settings.{Settings}
-use Rattle.ledger.specs.Legal.{IsKind, IsLegal}
-use Rattle.ledger.specs.Ledger.{newest_actor, next_of, newest_next}
+use Rattle.book.specs.Legal.{IsKind, IsLegal}
+use Rattle.book.specs.Ledger.{newest_actor, next_of, newest_next}
 use Rattle.interleave.specs.Steps.{is_actor_shut}
 
 -- a record of no session is a tick

@@ -4,7 +4,7 @@ use Rattle.std.specs.Str.{is_utf8, chars}
 use lib.Utf8.{encode}
 use Rattle.line_grammar.specs.declared.splitter.Piece.TheVariants.{Line}
 use Rattle.line_grammar.specs.Reading.{parameters, reading, with_command}
-use Rattle.line_grammar.specs.Spelling.{untagged}
+use Rattle.line_grammar.specs.Spelling.{bare_line}
 use Rattle.message_tags.specs.Tags.{counting_tags, key_shape, last_value}
 use Rattle.casemapping.specs.Fold.{fold_of}
 use Rattle.chronicle.specs.declared.record.Kind.TheVariants.{Opened, Said}
@@ -15,9 +15,9 @@ use Rattle.registration.specs.Caps.{after_request}
 use Rattle.labels_batches.specs.Rendered.{spelled_line}
 use Rattle.answer_octets.specs.Laws.{IsLoneText}
 use Rattle.answer_octets.specs.TextLines.{label_answers}
-use Rattle.drafts.specs.Lines.{prefix}
+use Rattle.transactions.specs.Lines.{prefix}
 use Rattle.commands.specs.Asked.{asked_of}
-use Rattle.commands.specs.Names.{named}
+use Rattle.commands.specs.Names.{known_name}
 use Rattle.commands.specs.Commands.{command_by, command_of}
 use Rattle.deliveries.specs.declared.delivery.Delivery.TheVariants.{Lines}
 use Rattle.deliveries.specs.Owed.{owed}
@@ -68,23 +68,25 @@ pong = codes "@label=a\\sb :irc.example PONG irc.example x"
 
 -- its label counts, unescaped
 counts : IsRequest server history asks
-unfolding reading parameters with_command asked_of command_of command_by named after_request fold_of is_quit
+unfolding reading parameters with_command asked_of command_of command_by known_name after_request fold_of is_quit
     counting_tags key_shape last_value is_utf8 chars encode
 counts = record { split = refl; counts = refl; no_quit = refl; met = refl }
 
 -- what the history owes the session
 owes : owed server history 1
     ≡ Lines 2 (codes ":irc.example CAP * ACK :labeled-response batch" ++ crlf) ∷ Lines 3 (pong ++ crlf) ∷ []
-unfolding reading parameters with_command asked_of command_of command_by named after_request fold_of is_quit prefix
-    octets untagged spelled_line counting_tags key_shape last_value is_utf8 chars encode
+unfolding reading parameters with_command asked_of command_of command_by known_name after_request fold_of is_quit
+    prefix
+    octets bare_line spelled_line counting_tags key_shape last_value is_utf8 chars encode
 owes = refl
 
 -- one line with a label is of record 3, and none of record 2
 labels :
     ((host : List ℕ) → label_answers (map (octets_of host) (owed server history 1)) 3 ≡ 1)
     × ((host : List ℕ) → label_answers (map (octets_of host) (owed server history 1)) 2 ≡ 0)
-unfolding reading parameters with_command asked_of command_of command_by named after_request fold_of is_quit prefix
-    octets untagged spelled_line counting_tags key_shape last_value is_utf8 chars encode
+unfolding reading parameters with_command asked_of command_of command_by known_name after_request fold_of is_quit
+    prefix
+    octets bare_line spelled_line counting_tags key_shape last_value is_utf8 chars encode
 labels = ((λ host. refl), (λ host. refl))
 
 -- of the same answer twice, two
@@ -93,13 +95,15 @@ unfolding counting_tags key_shape last_value is_utf8 chars encode
 twice = refl
 
 lone : IsLoneText (codes "a b") (copies_text server asks) (pong ++ crlf)
-unfolding reading parameters with_command asked_of command_of command_by named after_request fold_of is_quit prefix
-    octets untagged spelled_line counting_tags key_shape last_value is_utf8 chars encode
+unfolding reading parameters with_command asked_of command_of command_by known_name after_request fold_of is_quit
+    prefix
+    octets bare_line spelled_line counting_tags key_shape last_value is_utf8 chars encode
 lone = record { line = pong; lines = refl; labelled = refl; opens_none = λ e. absurd (cc) }
 
 answered : IsAnsweredWhole server history asks
-unfolding reading parameters with_command asked_of command_of command_by named after_request fold_of is_quit prefix
-    octets untagged spelled_line counting_tags key_shape last_value is_utf8 chars encode
+unfolding reading parameters with_command asked_of command_of command_by known_name after_request fold_of is_quit
+    prefix
+    octets bare_line spelled_line counting_tags key_shape last_value is_utf8 chars encode
 answered = record {
   text = pong ++ crlf;
   owes = (1, omega arith, refl);
@@ -113,6 +117,7 @@ abbrev asks_in_two : Request
 asks_in_two = record asks { piece = Line (codes "@label=a PING :x" ++ crlf ++ codes "@label=a FOO") }
 
 two_labels : label_answers (map (octets_of (codes "h1")) (owed server (record_of asks_in_two ∷ before) 1)) 3 ≡ 2
-unfolding reading parameters with_command asked_of command_of command_by named after_request fold_of is_quit prefix
-    octets untagged spelled_line counting_tags key_shape last_value is_utf8 chars encode
+unfolding reading parameters with_command asked_of command_of command_by known_name after_request fold_of is_quit
+    prefix
+    octets bare_line spelled_line counting_tags key_shape last_value is_utf8 chars encode
 two_labels = refl

@@ -3,10 +3,10 @@ use Rattle.std.proofs.lemmas.Bool.Decides.{leb_tells, eqb_tells}
 use Rattle.std.proofs.Common.{◌≡◌, ◌≢◌, inl, inr, ℕ, ◌<◌, ◌≤◌, Bool, true, false, ◌||◌, ◌&&◌, nat_le, cond}
 use Rattle.std.proofs.Common.{List, [], ◌∷◌, length, Option, Some, None, refl, sym, ap, ◌∙◌}
 use Rattle.std.specs.Option.{is_some}
-use Rattle.ledger.specs.Ledger.{is_here}
+use Rattle.book.specs.Ledger.{is_here}
 use Rattle.interleave.specs.declared.event.StepRefusal.{StepRefusal}
 use Rattle.interleave.specs.State.{State, inbox_at, is_known, is_worker, job_of, holds, is_home}
-use Rattle.interleave.specs.Refusals.{is_empty, no_session, no_worker, locked, not_holding, has_job, no_job}
+use Rattle.interleave.specs.Refusals.{is_empty, no_session, no_worker, not_free, not_holding, has_job, no_job}
 use Rattle.interleave.specs.Refusals.{in_flight, nothing_read, nothing_left, puts_left, holds_lock}
 
 no_some : {X : Type 0} (x : X) → Some x ≡ None → ⊥
@@ -67,7 +67,7 @@ some_there : {X : Type 0} (o : Option X) → is_some o ≡ true → (x : X) × (
 some_there None e = absurd (let f : false ≡ true = e in cc)
 some_there (Some x) e = (x, refl)
 
-pub unlocked : (m : State) (later : Option StepRefusal) → locked m later ≡ None → (m.holder ≡ None) × (later ≡ None)
+pub unlocked : (m : State) (later : Option StepRefusal) → not_free m later ≡ None → (m.holder ≡ None) × (later ≡ None)
 unlocked m later e = let f = kept_off (is_some m.holder) _ later e in (none_there m.holder f.0, f.1)
 
 held_by : (o : Option ℕ) (w : ℕ) → holds o w ≡ true → o ≡ Some w

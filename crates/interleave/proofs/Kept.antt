@@ -17,17 +17,17 @@ use Rattle.chronicle.specs.declared.why.Why.{Why}
 use Rattle.chronicle.specs.History.{Rec, sessions, said_by, accepted}
 use Rattle.deliveries.specs.declared.delivery.Delivery.{Delivery}
 use Rattle.deliveries.specs.Items.{deliveries}
-use Rattle.outbox.specs.Ring.{Waiting, empty_ring, with_taken as ring_taken, put_into}
-use Rattle.ledger.specs.Ledger.{Shown, Turn, Out, IsOut, is_here}
-use Rattle.ledger.specs.Ledger as book
+use Rattle.book.specs.Ring.{Waiting, empty_ring, with_taken as ring_taken, put_into}
+use Rattle.book.specs.Ledger.{Shown, Turn, Out, IsOut, is_here}
+use Rattle.book.specs.Ledger as book
 use Rattle.interleave.specs.declared.worker.Place.{Place}
 use Rattle.interleave.specs.declared.worker.Place.TheVariants.{Home, Hand, Begun}
 use Rattle.interleave.specs.declared.play.Holder.{Holder}
 use Rattle.interleave.specs.State.{Seen, State, IsBoxOf, IsSound, nothing_fed, inbox_at, job_of}
 use Rattle.interleave.specs.State.{holds, is_home, place_with, waits, queue_of}
 use Rattle.interleave.specs.Refusals.{turn_of}
-use Rattle.interleave.specs.Steps.{moved, with_taken, with_left, with_begun, with_fed, connected}
-use Rattle.interleave.specs.Steps.{fed, picked, begun, ended, back, took, reaped}
+use Rattle.interleave.specs.Steps.{with_place, with_taken, with_left, with_begun, with_fed, step_connect}
+use Rattle.interleave.specs.Steps.{step_feed, step_pick, step_begin, step_end, back, step_take, step_reap}
 use Rattle.interleave.specs.Inbox.{Held, IsRead, IsBegun, no_inbox, held_at, with_held}
 use Rattle.interleave.specs.Inbox.{with_seen, moved_to, ended_at, reaped_at}
 use Rattle.interleave.specs.Kept.{seen_of, worker_of, state_of, next_at, baton_at}
@@ -140,7 +140,7 @@ other_job m jobs (Some x) w j a free who h =
 
 -- an item is taken
 took_holding : (m : Shown Waiting) (jobs : List (Option ℕ)) (holder : Option Holder) (s : ℕ)
-    → IsHolding m jobs holder → IsHolding (book.taken m s) jobs holder
+    → IsHolding m jobs holder → IsHolding (book.after_take m s) jobs holder
 took_holding m jobs None s h = h
 took_holding m jobs (Some x) s h =
     let o = h.0 in (
@@ -206,11 +206,11 @@ job_is m sendq boxes jobs holder w s i a has =
 pub fed_kept : (m : Shown Waiting) (sendq : ℕ) (boxes : List Held) (jobs : List (Option ℕ)) (holder : Option Holder)
     (s : ℕ) (octets : List ℕ) (n : ℕ) (c : Held) → IsKept m sendq boxes jobs holder → 0 < s → s ≤ length boxes
     → (a : IsRead (held_at boxes s) octets n c)
-    → (state_of m sendq (with_held boxes s c) jobs holder ≡ fed
+    → (state_of m sendq (with_held boxes s c) jobs holder ≡ step_feed
     (state_of m sendq boxes jobs holder) s octets a.added) × IsKept m sendq (with_held boxes s c) jobs holder
 fed_kept m sendq boxes jobs holder s octets n c i above below a =
     let st = state_of m sendq boxes jobs holder in let z = size boxes in
-    let state : state_of m sendq (with_held boxes s c) jobs holder ≡ fed st s octets a.added = one_state m sendq
+    let state : state_of m sendq (with_held boxes s c) jobs holder ≡ step_feed st s octets a.added = one_state m sendq
     boxes jobs (worker_of holder) s c (λ b. with_fed b octets a.added) (ap (λ (x : Held). x.seen) a.after) in
     let adds : lines ((inbox_at st s).fed ++ octets) ≡ lines (inbox_at st s).fed ++ a.added = subst
     (λ (b : Seen). lines (b.fed ++ octets) ≡ lines b.fed ++ a.added)
@@ -231,13 +231,13 @@ pub picked_kept : (m : Shown Waiting) (sendq : ℕ) (boxes : List Held) (jobs : 
     → holds (worker_of holder) w ≡ false → is_home (inbox_at (state_of m sendq boxes jobs holder) s).place ≡ true
     → (inbox_at (state_of m sendq boxes jobs holder) s).pending ≢ []
     → (state_of m sendq (with_held boxes s (moved_to (held_at boxes s) (Hand w)))
-    (slice_set jobs (w - 1) (Some s)) holder ≡ picked (state_of m sendq boxes jobs holder) w s)
+    (slice_set jobs (w - 1) (Some s)) holder ≡ step_pick (state_of m sendq boxes jobs holder) w s)
     × IsKept m sendq (with_held boxes s (moved_to (held_at boxes s) (Hand w))) (slice_set jobs (w - 1) (Some s)) holder
 picked_kept m sendq boxes jobs holder w s i a l above below here free home some =
     let st = state_of m sendq boxes jobs holder in let z = size boxes in let c = moved_to (held_at boxes s) (Hand w) in
     let state : state_of m sendq (with_held boxes s c) (slice_set jobs (w - 1) (Some s)) holder
-    ≡ picked st w s = one_state m sendq boxes (slice_set jobs (w - 1) (Some s)) (worker_of holder) s c
-    (λ b. moved b (Hand w)) refl in
+    ≡ step_pick st w s = one_state m sendq boxes (slice_set jobs (w - 1) (Some s)) (worker_of holder) s c
+    (λ b. with_place b (Hand w)) refl in
     let at : (held_at boxes s).seen.place ≡ Home = ap
     (λ (x : Seen). x.place) (sym (seen_is m sendq boxes jobs holder s)) ∙ is_at_home _ home in (
       state,
@@ -260,7 +260,7 @@ back_kept m sendq boxes jobs holder w s i a l has free =
     let st = state_of m sendq boxes jobs holder in let c = moved_to (held_at boxes s) Home in
     let j = job_is m sendq boxes jobs holder w s i.sound a has in
     let state : state_of m sendq (with_held boxes s c) (slice_set jobs (w - 1) None) holder ≡ back st w s =
-    one_state m sendq boxes (slice_set jobs (w - 1) None) (worker_of holder) s c (λ b. moved b Home) refl in
+    one_state m sendq boxes (slice_set jobs (w - 1) None) (worker_of holder) s c (λ b. with_place b Home) refl in
     let at : (held_at boxes s).seen.place ≡ Hand w = j.place ∙ in_hand_of (worker_of holder) w free in (
       state,
       record {
@@ -294,7 +294,7 @@ pending_in_hand m sendq boxes jobs holder w s i a free has e =
     (i.sound.each s above (omega arith)).hand w place (ap (λ (x : Seen). x.pending) is ∙ e)
 
 said_more : (m : Shown Waiting) (s : ℕ) (piece : Piece) (moment : ℤ)
-    → accepted (book.begun m (kind.Said s (length (accepted m.history s)) piece) moment).history s
+    → accepted (book.after_begin m (kind.Said s (length (accepted m.history s)) piece) moment).history s
     ≡ accepted m.history s ++ piece ∷ []
 said_more m s piece moment = ap (λ (xs : List Piece). accepted m.history s ++ xs) (rw (eq-eqb s s refl) refl)
 
@@ -307,17 +307,17 @@ pub begun_kept : (m k : Shown Waiting) (sendq : ℕ) (boxes : List Held) (jobs :
     → job_of (state_of m sendq boxes jobs holder) w ≡ Some s → (b : IsBegun (held_at boxes s) m w moment p c k)
     → book.IsSound put_into k
     → (state_of k sendq (with_held boxes s c) jobs (Some (record { worker = w; plan = p }))
-    ≡ begun (state_of m sendq boxes jobs holder) w s b.piece b.rest moment)
+    ≡ step_begin (state_of m sendq boxes jobs holder) w s b.piece b.rest moment)
     × IsKept k sendq (with_held boxes s c) jobs (Some (record { worker = w; plan = p }))
 begun_kept m k sendq boxes jobs holder w s moment p c i a l free has b sound =
     let st = state_of m sendq boxes jobs holder in let h = m.history in let n = length (accepted h s) in
     let j = job_is m sendq boxes jobs holder w s i.sound a has in
     let held = turn_in_hand m sendq boxes jobs holder w s i a free has in
     let turn : b.turn ≡ turn_of m s = (let e : Some b.turn ≡ Some (turn_of m s) = sym b.baton ∙ held in cc) in
-    let g : Shown Waiting = book.begun m (kind.Said s n b.piece) moment in
-    let kg : k ≡ g = b.book ∙ ap (λ (u : Turn). book.begun m (kind.Said u.session u.next b.piece) moment) turn in
+    let g : Shown Waiting = book.after_begin m (kind.Said s n b.piece) moment in
+    let kg : k ≡ g = b.book ∙ ap (λ (u : Turn). book.after_begin m (kind.Said u.session u.next b.piece) moment) turn in
     let state : state_of k sendq (with_held boxes s c) jobs (Some (record { worker = w; plan = p }))
-    ≡ begun st w s b.piece b.rest moment =
+    ≡ step_begin st w s b.piece b.rest moment =
     ap (λ (x : Shown Waiting). state_of x sendq (with_held boxes s c) jobs (Some (record { worker = w; plan = p }))) kg
     ∙ one_state g sendq boxes jobs (Some w) s c (λ x. with_begun x w b.rest) (ap (λ (x : Held). x.seen) b.inbox) in
     let next : (inbox_at st s).pending ≡ b.piece ∷ b.rest = ap
@@ -370,9 +370,9 @@ put_kept m k sendq boxes jobs w p q i e out session next sound =
 
 pub hung_kept : (m k : Shown Waiting) (sendq : ℕ) (boxes : List Held) (jobs : List (Option ℕ))
     (holder : Option Holder) (s : ℕ) (why : Why) (moment : ℤ) → IsKept m sendq boxes jobs holder → worker_of holder
-    ≡ None → k ≡ book.done m (kind.Hung s why) moment → book.IsSound put_into k → IsKept k sendq boxes jobs holder
+    ≡ None → k ≡ book.after_all m (kind.Hung s why) moment → book.IsSound put_into k → IsKept k sendq boxes jobs holder
 hung_kept m k sendq boxes jobs holder s why moment i free e sound =
-    let st = state_of m sendq boxes jobs holder in let g : Shown Waiting = book.done m (kind.Hung s why) moment in
+    let st = state_of m sendq boxes jobs holder in let g : Shown Waiting = book.after_all m (kind.Hung s why) moment in
     let z = size boxes in let y = i.sound.inboxes in
     subst (λ (n : Shown Waiting). IsKept n sendq boxes jobs holder) (sym e)
     (record {
@@ -386,10 +386,11 @@ hung_kept m k sendq boxes jobs holder s why moment i free e sound =
 pub silent_kept : (m n : Shown Waiting) (sendq : ℕ) (boxes : List Held) (jobs : List (Option ℕ))
     (holder : Option Holder) (w : ℕ) (k : Kind) (moment : ℤ) (p : Out) → ((t : ℕ) → said_by k t ≡ [])
     → IsCleanKind k → IsKept m sendq boxes jobs holder → 0 < w → w ≤ length jobs → worker_of holder ≡ None
-    → job_of (state_of m sendq boxes jobs holder) w ≡ None → n ≡ book.begun m k moment → IsOut n p → p.next ≡ None
+    → job_of (state_of m sendq boxes jobs holder) w ≡ None → n ≡ book.after_begin m k moment → IsOut n p → p.next
+    ≡ None
     → book.IsSound put_into n → IsKept n sendq boxes jobs (Some (record { worker = w; plan = p }))
 silent_kept m n sendq boxes jobs holder w k moment p silent is i a l free none e out next sound =
-    let st = state_of m sendq boxes jobs holder in let g : Shown Waiting = book.begun m k moment in
+    let st = state_of m sendq boxes jobs holder in let g : Shown Waiting = book.after_begin m k moment in
     let z = size boxes in let y = i.sound.inboxes in
     subst (λ (b : Shown Waiting). IsKept b sendq boxes jobs (Some (record { worker = w; plan = p }))) (sym e)
     (record {
@@ -408,13 +409,13 @@ silent_kept m n sendq boxes jobs holder w k moment p silent is i a l free none e
 pub sweep_ended_kept : (m k : Shown Waiting) (sendq : ℕ) (boxes : List Held) (jobs : List (Option ℕ))
     (w : ℕ) (p : Out) → IsKept m sendq boxes jobs (Some (record { worker = w; plan = p }))
     → job_of (state_of m sendq boxes jobs (Some (record { worker = w; plan = p }))) w ≡ None
-    → k ≡ book.finished m → book.IsSound put_into k → IsKept k sendq boxes jobs None
+    → k ≡ book.after_end m → book.IsSound put_into k → IsKept k sendq boxes jobs None
 sweep_ended_kept m k sendq boxes jobs w p i none e sound =
     let st = state_of m sendq boxes jobs (Some (record { worker = w; plan = p })) in
     subst (λ (n : Shown Waiting). IsKept n sendq boxes jobs None) (sym e)
     (record {
       sound = sweep_ended_sound st w i.sound refl none (subst (book.IsSound put_into) e sound);
-      turns = book_turns m (book.finished m) boxes i.turns (λ t from to. record { here = refl; accepted = refl });
+      turns = book_turns m (book.after_end m) boxes i.turns (λ t from to. record { here = refl; accepted = refl });
       holding = tt;
     })
 
@@ -446,16 +447,16 @@ line_plan m sendq boxes jobs w s p i a has =
 pub line_ended_kept : (m k : Shown Waiting) (sendq : ℕ) (boxes : List Held) (jobs : List (Option ℕ)) (w s : ℕ)
     (p : Out) (turn : Turn) → IsKept m sendq boxes jobs (Some (record { worker = w; plan = p })) → 0 < w
     → job_of (state_of m sendq boxes jobs (Some (record { worker = w; plan = p }))) w ≡ Some s
-    → turn.session ≡ s → turn.next + 1 ≡ length (accepted m.history s) → k ≡ book.finished m → book.IsSound put_into k
+    → turn.session ≡ s → turn.next + 1 ≡ length (accepted m.history s) → k ≡ book.after_end m → book.IsSound put_into k
     → (state_of k sendq (with_held boxes s (ended_at (held_at boxes s) turn)) (slice_set jobs (w - 1) None) None
-    ≡ ended (state_of m sendq boxes jobs (Some (record { worker = w; plan = p }))) w (Some s))
+    ≡ step_end (state_of m sendq boxes jobs (Some (record { worker = w; plan = p }))) w (Some s))
     × IsKept k sendq (with_held boxes s (ended_at (held_at boxes s) turn)) (slice_set jobs (w - 1) None) None
 line_ended_kept m k sendq boxes jobs w s p turn i a has session goes e sound =
     let st = state_of m sendq boxes jobs (Some (record { worker = w; plan = p })) in
     let j = job_is m sendq boxes jobs (Some (record { worker = w; plan = p })) w s i.sound a has in
-    let c = ended_at (held_at boxes s) turn in let g : Shown Waiting = book.finished m in
-    let state : state_of g sendq (with_held boxes s c) (slice_set jobs (w - 1) None) None ≡ ended st w (Some s) =
-    one_state g sendq boxes (slice_set jobs (w - 1) None) None s c (λ b. moved b Home) refl in (
+    let c = ended_at (held_at boxes s) turn in let g : Shown Waiting = book.after_end m in
+    let state : state_of g sendq (with_held boxes s c) (slice_set jobs (w - 1) None) None ≡ step_end st w (Some s) =
+    one_state g sendq boxes (slice_set jobs (w - 1) None) None s c (λ b. with_place b Home) refl in (
       ap (λ (n : Shown Waiting). state_of n sendq (with_held boxes s c) (slice_set jobs (w - 1) None) None) e ∙ state,
       subst (λ (n : Shown Waiting). IsKept n sendq (with_held boxes s c) (slice_set jobs (w - 1) None) None) (sym e)
           (record {
@@ -475,19 +476,19 @@ line_ended_kept m k sendq boxes jobs w s p turn i a has session goes e sound =
 pub took_kept : (m k : Shown Waiting) (sendq : ℕ) (boxes : List Held) (jobs : List (Option ℕ))
     (holder : Option Holder) (s : ℕ) (x : Delivery) → IsKept m sendq boxes jobs holder → 0 < s → s ≤ length boxes
     → is_here m.outboxes s ≡ true
-    → slice_get (queue_of (state_of m sendq boxes jobs holder) s) 0 ≡ Some x → k ≡ book.taken m s
+    → slice_get (queue_of (state_of m sendq boxes jobs holder) s) 0 ≡ Some x → k ≡ book.after_take m s
     → book.IsSound put_into k
     → (state_of k sendq (with_held boxes s (with_seen (held_at boxes s) (with_taken (held_at boxes s).seen x))) jobs
-    holder ≡ took (state_of m sendq boxes jobs holder) s x)
+    holder ≡ step_take (state_of m sendq boxes jobs holder) s x)
     × IsKept k sendq (with_held boxes s (with_seen (held_at boxes s) (with_taken (held_at boxes s).seen x))) jobs
     holder
 took_kept m k sendq boxes jobs holder s x i above below here front e sound =
     let st = state_of m sendq boxes jobs holder in let z = size boxes in let y = i.sound.inboxes in
     let c = with_seen (held_at boxes s) (with_taken (held_at boxes s).seen x) in
-    let g : Shown Waiting = book.taken m s in
+    let g : Shown Waiting = book.after_take m s in
     let within : s - 1 < length m.outboxes = omega arith in
     let state : state_of g sendq (with_held boxes s c) jobs holder
-    ≡ took st s x = one_state g sendq boxes jobs (worker_of holder) s c (λ b. with_taken b x) refl in
+    ≡ step_take st s x = one_state g sendq boxes jobs (worker_of holder) s c (λ b. with_taken b x) refl in
     let o : Option Waiting = Some (ring_taken (book.outbox_at m.outboxes s)) in
     let there : is_here g.outboxes s ≡ true = ap is_some (get_or-set_same m.outboxes (s - 1) o None within) in (
       ap (λ (n : Shown Waiting). state_of n sendq (with_held boxes s c) jobs holder) e ∙ state,
@@ -509,19 +510,19 @@ took_kept m k sendq boxes jobs holder s x i above below here front e sound =
 pub reaped_kept : (m k : Shown Waiting) (sendq : ℕ) (boxes : List Held) (jobs : List (Option ℕ))
     (holder : Option Holder) (s : ℕ) → IsKept m sendq boxes jobs holder → worker_of holder ≡ None → 0 < s
     → s ≤ length boxes → is_here m.outboxes s ≡ true
-    → is_home (inbox_at (state_of m sendq boxes jobs holder) s).place ≡ true → k ≡ book.reaped m s
+    → is_home (inbox_at (state_of m sendq boxes jobs holder) s).place ≡ true → k ≡ book.after_reap m s
     → book.IsSound put_into k
     → (state_of k sendq (with_held boxes s (reaped_at (held_at boxes s) (queue_of
-    (state_of m sendq boxes jobs holder) s))) jobs holder ≡ reaped (state_of m sendq boxes jobs holder) s)
+    (state_of m sendq boxes jobs holder) s))) jobs holder ≡ step_reap (state_of m sendq boxes jobs holder) s)
     × IsKept k sendq (with_held boxes s
     (reaped_at (held_at boxes s) (queue_of (state_of m sendq boxes jobs holder) s))) jobs holder
 reaped_kept m k sendq boxes jobs holder s i free above below here home e sound =
     let st = state_of m sendq boxes jobs holder in let z = size boxes in let y = i.sound.inboxes in
     let left = queue_of st s in
-    let c = reaped_at (held_at boxes s) left in let g : Shown Waiting = book.reaped m s in
+    let c = reaped_at (held_at boxes s) left in let g : Shown Waiting = book.after_reap m s in
     let within : s - 1 < length m.outboxes = omega arith in
     let state : state_of g sendq (with_held boxes s c) jobs holder
-    ≡ reaped st s = one_state g sendq boxes jobs (worker_of holder) s c (λ b. with_left b left) refl in
+    ≡ step_reap st s = one_state g sendq boxes jobs (worker_of holder) s c (λ b. with_left b left) refl in
     let gone : is_here g.outboxes s ≡ false = ap is_some (get_or-set_same m.outboxes (s - 1) None None within) in (
       ap (λ (n : Shown Waiting). state_of n sendq (with_held boxes s c) jobs holder) e ∙ state,
       subst (λ (n : Shown Waiting). IsKept n sendq (with_held boxes s c) jobs holder) (sym e)
@@ -544,18 +545,18 @@ pub connected_kept : (m k : Shown Waiting) (sendq : ℕ) (boxes : List Held) (jo
     (holder : Option Holder) (c : Held) (host : List ℕ) (moment : ℤ) → IsKept m sendq boxes jobs holder
     → worker_of holder ≡ None → host_shape host ≡ true
     → c ≡ record { seen = nothing_fed; turn = Some (record { session = sessions m.history + 1; next = 0 }) }
-    → k ≡ book.opened m host moment (empty_ring sendq) → book.IsSound put_into k
-    → (state_of k sendq (boxes ++ c ∷ []) jobs holder ≡ connected (state_of m sendq boxes jobs holder) host moment)
+    → k ≡ book.after_open m host moment (empty_ring sendq) → book.IsSound put_into k
+    → (state_of k sendq (boxes ++ c ∷ []) jobs holder ≡ step_connect (state_of m sendq boxes jobs holder) host moment)
     × IsKept k sendq (boxes ++ c ∷ []) jobs holder
 connected_kept m k sendq boxes jobs holder c host moment i free shape is e sound =
     let st = state_of m sendq boxes jobs holder in
     let z = size boxes in let y = i.sound.inboxes in let count = i.sound.book.sessions in
     let box : Option Waiting = Some (empty_ring sendq) in
-    let g : Shown Waiting = book.opened m host moment (empty_ring sendq) in
+    let g : Shown Waiting = book.after_open m host moment (empty_ring sendq) in
     let n : length (boxes ++ c ∷ []) ≡ length boxes + 1 = length-append boxes (c ∷ []) in
     let all : map seen_of (boxes ++ c ∷ []) ≡ map seen_of boxes ++ nothing_fed
     ∷ [] = map-append seen_of boxes (c ∷ []) ∙ ap (λ (x : Held). map seen_of boxes ++ x.seen ∷ []) is in
-    let state : state_of g sendq (boxes ++ c ∷ []) jobs holder ≡ connected st host moment = ap
+    let state : state_of g sendq (boxes ++ c ∷ []) jobs holder ≡ step_connect st host moment = ap
     (λ (xs : List Seen). of_parts g sendq xs jobs (worker_of holder)) all in
     let turns : Turns g (boxes ++ c ∷ []) = λ t from to.
     elim (eqb_tells t (length boxes + 1)) [

@@ -11,12 +11,12 @@ use Rattle.deliveries.specs.declared.delivery.Delivery.{Delivery}
 use Rattle.deliveries.specs.declared.item.Item.{Item}
 use Rattle.deliveries.specs.Items.{deliveries}
 use Rattle.deliveries.specs.declared.delivery.Delivery.TheVariants.{Lines, Last}
-use Rattle.deliveries.specs.Owed.{number_of, item, told, reason, delivery, owed}
+use Rattle.deliveries.specs.Owed.{number_of, item, told_text, reason, delivery, owed}
 use Rattle.line_grammar.specs.declared.splitter.Piece.{Piece}
 use Rattle.line_grammar.specs.Lines.{lines}
 use Rattle.chronicle.specs.History.{accepted}
-use Rattle.outbox.specs.Ring.{Waiting, put_into}
-use Rattle.ledger.specs.Ledger.{sent_by}
+use Rattle.book.specs.Ring.{Waiting, put_into}
+use Rattle.book.specs.Ledger.{sent_by}
 use Rattle.interleave.specs.declared.worker.Place.{Place}
 use Rattle.interleave.specs.declared.worker.Place.TheVariants.{Home, Hand, Begun}
 use Rattle.interleave.specs.State.{Seen, State, IsSound, IsBoxOf, ForEach, hand, behind, waits, box_at}
@@ -83,9 +83,9 @@ owed_up g (r ∷ h) t =
       | true ↦ item_up (length h) (owed g h t) [] (owed_up g h t)
       | false ↦
           elim (ends r.kind t) as (λ (b : Bool). IsUpTo (length h + 1) (owed g h t ++ cond b
-          (Last (length h + 1) (reason r.kind) ∷ []) (item (length h + 1) (told g h r.kind r.moment t)))) [
+          (Last (length h + 1) (reason r.kind) ∷ []) (item (length h + 1) (told_text g h r.kind r.moment t)))) [
             | true ↦ last_up (length h) (owed g h t) (reason r.kind) (owed_up g h t)
-            | false ↦ item_up (length h) (owed g h t) (told g h r.kind r.moment t) (owed_up g h t)
+            | false ↦ item_up (length h) (owed g h t) (told_text g h r.kind r.moment t) (owed_up g h t)
           ]
     ])
 
@@ -170,7 +170,7 @@ shut_stays g (r ∷ later) h t e =
 -- what the record owes that shuts a session
 closing : (g : Settings) (r : Rec) (h : List Rec) (t : ℕ) (b c d : Bool) → ends r.kind t ≡ c
     → (b || c || d) ≡ true → (end : List Delivery) × IsErrorAtMost end × (owed g h t ++ cond (b || d) []
-    (cond c (Last (length h + 1) (reason r.kind) ∷ []) (item (length h + 1) (told g h r.kind r.moment t)))
+    (cond c (Last (length h + 1) (reason r.kind) ∷ []) (item (length h + 1) (told_text g h r.kind r.moment t)))
     ≡ owed g h t ++ end)
 closing g r h t true c d is e = ([], tt, refl)
 closing g r h t false true true is e = ([], tt, refl)

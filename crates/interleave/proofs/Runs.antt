@@ -11,7 +11,7 @@ use Rattle.line_grammar.specs.Lines.{lines}
 use Rattle.chronicle.specs.History.{accepted}
 use Rattle.deliveries.specs.declared.delivery.Delivery.{Delivery}
 use Rattle.deliveries.specs.Owed.{owed}
-use Rattle.ledger.specs.Ledger.{to_sweep, to_ping}
+use Rattle.book.specs.Ledger.{to_sweep, to_ping}
 use Rattle.interleave.specs.declared.worker.Place.TheVariants.{Home, Hand}
 use Rattle.interleave.specs.declared.event.Event.{Event}
 use Rattle.interleave.specs.declared.event.Event.TheVariants.{Connect, Feed, Pick, Begin, Put, End, Back}
@@ -21,9 +21,10 @@ use Rattle.interleave.specs.declared.event.StepRefusal.{StepRefusal}
 use Rattle.interleave.specs.State.{Seen, State, nothing_fed, inbox_at, in_hand, unread, job_of}
 use Rattle.interleave.specs.State.{taken_of, queue_of, planned_for, IsSound, ForEach}
 use Rattle.interleave.specs.Refusals.{own_refusal}
-use Rattle.interleave.specs.Steps.{moved, with_taken, with_left, with_begun, with_fed, fed, took as took_one}
-use Rattle.interleave.specs.Steps.{IsBegin, IsBack, IsTake, IsSweep, IsTick, IsDone, IsStep, ended}
-use Rattle.interleave.specs.Runs.{IsRun, item_of, fed_by, handed_by, sent_by, sent, took_by, took}
+use Rattle.interleave.specs.Steps.{with_place, with_taken, with_left, with_begun, with_fed, step_feed}
+use Rattle.interleave.specs.Steps.{step_take as took_one}
+use Rattle.interleave.specs.Steps.{IsBegin, IsBack, IsTake, IsSweep, IsTick, IsDone, IsStep, step_end}
+use Rattle.interleave.specs.Runs.{IsRun, item_of, fed_by, handed_by, sent_by, sent_in, took_by, taken_in}
 use Rattle.interleave.proofs.Order.{sound_owed, sound_accepted}
 use Rattle.interleave.proofs.Free.{session_in}
 
@@ -100,7 +101,7 @@ connect_gains m k t e =
     }
 
 feed_gains : (m : State) (s t : ℕ) (octets : List ℕ) (added : List Piece) → 0 < s → 0 < t → s ≤ length m.inboxes
-    → Gains m (fed m s octets added) t (cond (s == t) octets []) []
+    → Gains m (step_feed m s octets added) t (cond (s == t) octets []) []
 feed_gains m s t octets added above from l =
     record {
       fed = set_gains (λ (b : Seen). b.fed) m.inboxes s t
@@ -132,13 +133,13 @@ begin_gains m k w t None moment n h = absurd h
 begin_gains m k w t (Some s) moment n h = alike m k s t (with_begun (inbox_at m s) w h.1) refl refl
     (inboxes_of _ _ h.5)
 
-end_gains : (m k : State) (w t : ℕ) (o : Option ℕ) → k ≡ ended m w o → Gains m k t [] []
+end_gains : (m k : State) (w t : ℕ) (o : Option ℕ) → k ≡ step_end m w o → Gains m k t [] []
 end_gains m k w t None e = untouched m k t (inboxes_of _ _ e)
-end_gains m k w t (Some s) e = alike m k s t (moved (inbox_at m s) Home) refl refl (inboxes_of _ _ e)
+end_gains m k w t (Some s) e = alike m k s t (with_place (inbox_at m s) Home) refl refl (inboxes_of _ _ e)
 
 back_gains : (m k : State) (w t : ℕ) (o : Option ℕ) (n : Note) → IsBack m w o n k → Gains m k t [] []
 back_gains m k w t None n h = absurd h
-back_gains m k w t (Some s) n h = alike m k s t (moved (inbox_at m s) Home) refl refl (inboxes_of _ _ h.1)
+back_gains m k w t (Some s) n h = alike m k s t (with_place (inbox_at m s) Home) refl refl (inboxes_of _ _ h.1)
 
 sweep_gains : (m k : State) (w t : ℕ) (o : Option ℕ) (moment : ℤ) (n : Note) → IsSweep m w o moment n k
     → Gains m k t [] []
@@ -165,7 +166,7 @@ done_gains m k (Connect host moment) n t from free h = connect_gains m k t (inbo
 done_gains m k (Feed s octets) n t from free h = let i = session_in m s None free in
     subst (λ (j : State). Gains m j t (cond (s == t) octets []) []) (sym h.3)
     (feed_gains m s t octets h.0 i.0.above from i.0.below)
-done_gains m k (Pick w s) n t from free h = alike m k s t (moved (inbox_at m s) (Hand w)) refl refl
+done_gains m k (Pick w s) n t from free h = alike m k s t (with_place (inbox_at m s) (Hand w)) refl refl
     (inboxes_of _ _ h.1)
 done_gains m k (Begin w moment) n t from free h = begin_gains m k w t (job_of m w) moment n h
 done_gains m k (Put w) n t from free h = untouched m k t (inboxes_of _ _ h.3)
@@ -187,7 +188,7 @@ step_gains m k e (Err r) t from h = same m k t h.1
 -- ---- runs
 
 run_gains : (m k : State) (es : List Event) (rs : List (Result Note StepRefusal)) (t : ℕ) → 0 < t → IsRun m es rs k
-    → Gains m k t (sent t es rs) (took t es rs)
+    → Gains m k t (sent_in t es rs) (taken_in t es rs)
 run_gains m k [] [] t from h = same m k t h
 run_gains m k [] (r ∷ rs) t from h = absurd h
 run_gains m k (e ∷ es) [] t from h = absurd h
@@ -195,19 +196,20 @@ run_gains m k (e ∷ es) (r ∷ rs) t from h =
     let one = step_gains m h.0 e r t from h.1 in
     let more = run_gains h.0 k es rs t from h.3 in
     record {
-      fed = more.fed ∙ ap (λ xs. xs ++ sent t es rs) one.fed ∙ append_assoc (inbox_at m t).fed (sent_by t e r)
-          (sent t es rs);
-      taken = more.taken ∙ ap (λ xs. xs ++ took t es rs) one.taken ∙ append_assoc (taken_of m t) (took_by t e r)
-          (took t es rs);
+      fed = more.fed ∙ ap (λ xs. xs ++ sent_in t es rs) one.fed ∙ append_assoc (inbox_at m t).fed (sent_by t e r)
+          (sent_in t es rs);
+      taken = more.taken ∙ ap (λ xs. xs ++ taken_in t es rs) one.taken ∙ append_assoc (taken_of m t) (took_by t e r)
+          (taken_in t es rs);
     }
 
 pub run_taken : (m k : State) (es : List Event) (rs : List (Result Note StepRefusal))
     → IsSound k → IsRun m es rs k → ForEach k
-    (λ t. (taken_of m t ++ took t es rs) ++ queue_of k t ++ planned_for k t ≡ owed k.book.settings k.book.history t)
+    (λ t. (taken_of m t ++ taken_in t es rs) ++ queue_of k t ++ planned_for k t
+    ≡ owed k.book.settings k.book.history t)
 run_taken m k es rs i h t from to = ap (λ xs. xs ++ queue_of k t ++ planned_for k t)
     (sym (run_gains m k es rs t from h).taken) ∙ sound_owed k i t from to
 
 pub run_accepted : (m k : State) (es : List Event) (rs : List (Result Note StepRefusal))
     → IsSound k → IsRun m es rs k → ForEach k
-    (λ t. accepted k.book.history t ++ in_hand k t ++ unread k t ≡ lines ((inbox_at m t).fed ++ sent t es rs))
+    (λ t. accepted k.book.history t ++ in_hand k t ++ unread k t ≡ lines ((inbox_at m t).fed ++ sent_in t es rs))
 run_accepted m k es rs i h t from to = sound_accepted k i t from to ∙ ap lines (run_gains m k es rs t from h).fed

@@ -10,9 +10,10 @@ use Rattle.chronicle.specs.Journal.{fresh_record, miss}
 use Rattle.registration.specs.Settings.{IsWellSet}
 use Rattle.answer_octets.specs.Clean.{is_one_line}
 use Rattle.clean_records.specs.Clean.{IsCleanHistory, IsCleanKind}
-use Rattle.outbox.specs.Ring.{Waiting, has_room}
-use Rattle.ledger.specs.declared.plan.Planned.{Planned}
-use Rattle.ledger.specs.Ledger.{Shown, begun, delivered, done, dropped, outbox_at, plan_of, put_all, put_next}
+use Rattle.book.specs.Ring.{Waiting, has_room}
+use Rattle.book.specs.Planned.{Planned}
+use Rattle.book.specs.Ledger.{Shown, after_begin, after_put, after_all, after_miss, outbox_at, plan_of, put_all}
+use Rattle.book.specs.Ledger.{put_next}
 
 abbrev pub IsServed : Shown Waiting → Type 0
 IsServed m = IsWellSet m.settings × IsCleanHistory m.history
@@ -30,7 +31,7 @@ pub next_served : (m : Shown Waiting) (ps : List Planned) → IsServed m → IsS
 next_served m [] i = i
 next_served m (p ∷ ps) i =
     elim (has_room (outbox_at m.outboxes p.session)) as
-    (λ (b : Bool). IsServed (cond b (delivered m p ps) (dropped m p ps))) [
+    (λ (b : Bool). IsServed (cond b (after_put m p ps) (after_miss m p ps))) [
       | true ↦ (i.0, i.1)
       | false ↦ (i.0, missed_clean m.history p.session i.1)
     ]
@@ -40,13 +41,13 @@ puts_served m [] i = i
 puts_served m (p ∷ ps) i = puts_served (put_next m (p ∷ ps)) ps (next_served m (p ∷ ps) i)
 
 pub begun_served : (m : Shown Waiting) (k : Kind) (moment : ℤ) → IsCleanKind k → IsServed m
-    → IsServed (begun m k moment)
+    → IsServed (after_begin m k moment)
 begun_served m k moment is i = (i.0, All-cons Clean (fresh_record m.history moment k) m.history is i.1)
 
 pub done_served : (m : Shown Waiting) (k : Kind) (moment : ℤ) → IsCleanKind k → IsServed m
-    → IsServed (done m k moment)
+    → IsServed (after_all m k moment)
 done_served m k moment is i =
-    let all = puts_served (begun m k moment) (plan_of m.settings m.history k moment (length m.outboxes))
+    let all = puts_served (after_begin m k moment) (plan_of m.settings m.history k moment (length m.outboxes))
     (begun_served m k moment is i) in (all.0, all.1)
 
 -- ---- lines

@@ -21,16 +21,17 @@ use Rattle.std.proofs.lemmas.List.{map-append}
 use Rattle.deliveries.specs.declared.delivery.Delivery.{Delivery}
 use Rattle.deliveries.specs.declared.item.Item.{Item}
 use Rattle.deliveries.specs.Items.{deliveries}
-use Rattle.outbox.specs.Ring.{Waiting, empty_ring, with_taken as ring_taken, put_into}
+use Rattle.book.specs.Ring.{Waiting, empty_ring, with_taken as ring_taken, put_into}
 use Rattle.deliveries.specs.Owed.{owed}
-use Rattle.ledger.specs.Ledger.{Shown, is_here, box_of, sent_by}
-use Rattle.ledger.specs.Ledger as book
+use Rattle.book.specs.Ledger.{Shown, is_here, box_of, sent_by}
+use Rattle.book.specs.Ledger as book
 use Rattle.interleave.specs.declared.worker.Place.{Place}
 use Rattle.interleave.specs.declared.worker.Place.TheVariants.{Home, Hand, Begun}
 use Rattle.interleave.specs.State.{Seen, State, IsBoxOf, IsSoundAt, IsSound, nothing_fed, inbox_at}
 use Rattle.interleave.specs.State.{box_at, queue_of, waits, is_home, holds, place_with, job_of}
-use Rattle.interleave.specs.Steps.{with_job, moved, with_taken, with_left, with_begun, with_fed, connected}
-use Rattle.interleave.specs.Steps.{fed, picked, begun, put, ended, back, took, hung, reaped}
+use Rattle.interleave.specs.Steps.{with_job, with_place, with_taken, with_left, with_begun, with_fed, step_connect}
+use Rattle.interleave.specs.Steps.{step_feed, step_pick, step_begin, step_put, step_end, back, step_take, step_hang}
+use Rattle.interleave.specs.Steps.{step_reap}
 use Rattle.interleave.proofs.Carried.{Carries, IsKeptBox, put_busy, next_carries, ShutBefore, carried, carries_same}
 use Rattle.interleave.proofs.Carried.{begun_carries, done_carries, away_before, next_length, done_length}
 use Rattle.interleave.proofs.Accepted.{none_accepted}
@@ -289,7 +290,7 @@ no_front (x ∷ xs) ys e = absurd (let f : x ∷ (xs ++ ys) ≡ [] = e in cc)
 
 pub fed_sound : (m : State) (s : ℕ) (octets : List ℕ) (added : List Piece) → IsSound m → 0 < s
     → s ≤ length m.inboxes → lines ((inbox_at m s).fed ++ octets) ≡ lines (inbox_at m s).fed ++ added
-    → IsSound (fed m s octets added)
+    → IsSound (step_feed m s octets added)
 fed_sound m s octets added i above below adds =
     let b = inbox_at m s in let was = i.each s above below in
     one_sound m m.book s (with_fed b octets added) m.jobs m.holder i i.book (i.set, i.clean) above below
@@ -305,19 +306,19 @@ fed_sound m s octets added i above below adds =
 
 pub picked_sound : (m : State) (w s : ℕ) → IsSound m → 0 < w → w ≤ length m.jobs → 0 < s → s ≤ length m.inboxes
     → is_here m.book.outboxes s ≡ true → holds m.holder w ≡ false → is_home (inbox_at m s).place ≡ true
-    → (inbox_at m s).pending ≢ [] → IsSound (picked m w s)
+    → (inbox_at m s).pending ≢ [] → IsSound (step_pick m w s)
 picked_sound m w s i a l above below here free home some =
     let b = inbox_at m s in let was = i.each s above below in
     let desks : length (with_job m w (Some s)) ≡ length m.jobs = set_length m.jobs (w - 1) (Some s) in
-    one_sound m m.book s (moved b (Hand w)) (with_job m w (Some s)) m.holder i i.book (i.set, i.clean) above below
+    one_sound m m.book s (with_place b (Hand w)) (with_job m w (Some s)) m.holder i i.book (i.set, i.clean) above below
     i.lock refl (λ t ne from to. carries_same m.book t)
     (record {
       accepted = was.accepted;
-      box = box_here (box_at m s) b (moved b (Hand w)) m.sendq
+      box = box_here (box_at m s) b (with_place b (Hand w)) m.sendq
           (owed m.book.settings m.book.history s) (owed m.book.settings m.book.history s) here refl was.box;
       hand = λ v e. some;
     })
-    (pick_batons m.jobs m.inboxes m.holder w s (moved b (Hand w)) a l above below free home refl i.jobs)
+    (pick_batons m.jobs m.inboxes m.holder w s (with_place b (Hand w)) a l above below free home refl i.jobs)
     (λ v e. let old = i.holder v e in (old.0, let f = old.1 in omega arith))
 
 place_apart : (v w : ℕ) → Begun v ≡ Hand w → ⊥
@@ -328,13 +329,13 @@ place_home w e = cc
 
 pub begun_sound : (m : State) (w s : ℕ) (piece : Piece) (rest : List Piece) (moment : ℤ) → IsSound m
     → m.holder ≡ None → 0 < w → w ≤ length m.jobs → job_of m w ≡ Some s → is_here m.book.outboxes s ≡ true
-    → (inbox_at m s).pending ≡ piece ∷ rest → book.IsSound put_into (begun m w s piece rest moment).book
-    → IsSound (begun m w s piece rest moment)
+    → (inbox_at m s).pending ≡ piece ∷ rest → book.IsSound put_into (step_begin m w s piece rest moment).book
+    → IsSound (step_begin m w s piece rest moment)
 begun_sound m w s piece rest moment i free a l has here next sound =
     let jobs : HasBatons m.jobs m.inboxes None = subst (HasBatons m.jobs m.inboxes) free i.jobs in
     let mine = jobs (w - 1) s has in let above = mine.0 in let below = mine.1 in
     let b = inbox_at m s in let was = i.each s above below in let h = m.book.history in
-    let n : Shown Waiting = (begun m w s piece rest moment).book in
+    let n : Shown Waiting = (step_begin m w s piece rest moment).book in
     let said = length (accepted h s) in
     let same = i.inboxes in
     let lines_one : list_all is_one_line (accepted h s ++ piece ∷ rest) ≡ true =
@@ -355,11 +356,11 @@ begun_sound m w s piece rest moment i free a l has here next sound =
     (λ v e. let vw : w ≡ v = (let f : Some w ≡ Some v = e in cc) in
     (subst (λ (j : ℕ). 0 < j) vw a, subst (λ (j : ℕ). j ≤ length m.jobs) vw l))
 
-pub put_sound : (m : State) → IsSound m → is_some m.holder ≡ true → book.IsSound put_into (put m).book
-    → IsSound (put m)
+pub put_sound : (m : State) → IsSound m → is_some m.holder ≡ true → book.IsSound put_into (step_put m).book
+    → IsSound (step_put m)
 put_sound m i held sound =
     let same = i.inboxes in
-    book_sound m (put m).book m.holder i sound (next_served m.book m.book.plan (i.set, i.clean))
+    book_sound m (step_put m).book m.holder i sound (next_served m.book m.book.plan (i.set, i.clean))
     (put_busy m.book m.book.plan ∙ i.lock) (next_length m.book m.book.plan)
     (λ t from to. next_carries m.book m.book.plan t (λ gone. away_before m.book t i.book from (omega arith) gone))
     i.jobs i.holder
@@ -368,33 +369,35 @@ put_sound m i held sound =
 like_without : (w v : ℕ) → v ≢ w → place_with (Some w) v ≡ place_with None v
 like_without w v ne = not_begun_by w v (λ e. ne (sym e))
 
-finish_carries : (m : Shown Waiting) (t : ℕ) → Carries m (book.finished m) t
+finish_carries : (m : Shown Waiting) (t : ℕ) → Carries m (book.after_end m) t
 finish_carries m t = let c = carries_same m t in record { accepted = c.accepted; box = c.box; before = c.before }
 
 pub sweep_ended_sound : (m : State) (w : ℕ) → IsSound m → m.holder ≡ Some w → job_of m w ≡ None
-    → book.IsSound put_into (book.finished m.book) → IsSound (ended m w None)
+    → book.IsSound put_into (book.after_end m.book) → IsSound (step_end m w None)
 sweep_ended_sound m w i held none sound =
-    book_sound m (book.finished m.book) None i sound (i.set, i.clean) refl refl (λ t from to. finish_carries m.book t)
+    book_sound m (book.after_end m.book) None i sound (i.set, i.clean) refl refl (λ t from to. finish_carries m.book t)
     (lock_batons m.jobs m.inboxes (Some w) None w none (like_without w)
     (subst (HasBatons m.jobs m.inboxes) held i.jobs))
     (λ v e. absurd (let f : None ≡ Some v = e in cc))
 
 pub line_ended_sound : (m : State) (w s : ℕ) → IsSound m → m.holder ≡ Some w → job_of m w ≡ Some s
-    → is_here m.book.outboxes s ≡ true → book.IsSound put_into (book.finished m.book) → IsSound (ended m w (Some s))
+    → is_here m.book.outboxes s ≡ true → book.IsSound put_into (book.after_end m.book)
+    → IsSound (step_end m w (Some s))
 line_ended_sound m w s i held has here sound =
     let jobs : HasBatons m.jobs m.inboxes (Some w) = subst (HasBatons m.jobs m.inboxes) held i.jobs in
     let who = i.holder w held in
     let mine = jobs (w - 1) s has in let above = mine.0 in let below = mine.1 in
     let b = inbox_at m s in let was = i.each s above below in
-    one_sound m (book.finished m.book) s (moved b Home) (with_job m w None) None i sound (i.set, i.clean) above below
+    one_sound m (book.after_end m.book) s (with_place b Home) (with_job m w None) None i sound
+    (i.set, i.clean) above below
     refl refl (λ t ne from to. finish_carries m.book t)
     (record {
       accepted = was.accepted;
-      box = box_here (box_at m s) b (moved b Home) m.sendq
+      box = box_here (box_at m s) b (with_place b Home) m.sendq
           (owed m.book.settings m.book.history s) (owed m.book.settings m.book.history s) here refl was.box;
       hand = λ v e. absurd (place_home v e);
     })
-    (home_batons m.jobs m.inboxes (Some w) None w s (moved b Home) who.0 who.1 has (like_without w) jobs)
+    (home_batons m.jobs m.inboxes (Some w) None w s (with_place b Home) who.0 who.1 has (like_without w) jobs)
     (λ v e. absurd (let f : None ≡ Some v = e in cc))
 
 pub back_sound : (m : State) (w s : ℕ) → IsSound m → 0 < w → w ≤ length m.jobs → job_of m w ≡ Some s
@@ -403,15 +406,15 @@ back_sound m w s i a l has here =
     let mine = i.jobs (w - 1) s has in let above = mine.0 in let below = mine.1 in
     let b = inbox_at m s in let was = i.each s above below in
     let desks : length (with_job m w None) ≡ length m.jobs = set_length m.jobs (w - 1) None in
-    one_sound m m.book s (moved b Home) (with_job m w None) m.holder i i.book (i.set, i.clean) above below
+    one_sound m m.book s (with_place b Home) (with_job m w None) m.holder i i.book (i.set, i.clean) above below
     i.lock refl (λ t ne from to. carries_same m.book t)
     (record {
       accepted = was.accepted;
-      box = box_here (box_at m s) b (moved b Home) m.sendq
+      box = box_here (box_at m s) b (with_place b Home) m.sendq
           (owed m.book.settings m.book.history s) (owed m.book.settings m.book.history s) here refl was.box;
       hand = λ v e. absurd (place_home v e);
     })
-    (home_batons m.jobs m.inboxes m.holder m.holder w s (moved b Home) a l has (λ v ne. refl) i.jobs)
+    (home_batons m.jobs m.inboxes m.holder m.holder w s (with_place b Home) a l has (λ v ne. refl) i.jobs)
     (λ v e. let old = i.holder v e in (old.0, let f = old.1 in omega arith))
 
 -- where one outbox is another
@@ -456,12 +459,12 @@ took_box (Some w) b sendq left xs ys x here e i = (
 
 pub took_sound : (m : State) (s : ℕ) (x : Delivery) → IsSound m → 0 < s → s ≤ length m.inboxes
     → is_here m.book.outboxes s ≡ true → slice_get (queue_of m s) 0 ≡ Some x
-    → book.IsSound put_into (took m s x).book → IsSound (took m s x)
+    → book.IsSound put_into (step_take m s x).book → IsSound (step_take m s x)
 took_sound m s x i above below here e sound =
     let b = inbox_at m s in let was = i.each s above below in
     let same = i.inboxes in
     let within : s - 1 < length m.book.outboxes = omega arith in
-    let n : Shown Waiting = (took m s x).book in
+    let n : Shown Waiting = (step_take m s x).book in
     let o : Option Waiting = Some (ring_taken (book.outbox_at m.book.outboxes s)) in
     let new : slice_index_or n.outboxes (s - 1) None ≡ o = get_or-set_same m.book.outboxes (s - 1) o None within in
     one_sound m n s (with_taken b x) m.jobs m.holder i sound (i.set, i.clean) above below i.lock
@@ -478,7 +481,7 @@ took_sound m s x i above below here e sound =
 -- the state in which its plan is out
 abbrev pub with_plan : State → ℕ → Kind → ℤ → State
 with_plan m w k moment = record {
-  book = book.begun m.book k moment;
+  book = book.after_begin m.book k moment;
   sendq = m.sendq;
   inboxes = m.inboxes;
   jobs = m.jobs;
@@ -486,10 +489,10 @@ with_plan m w k moment = record {
 }
 
 pub hung_sound : (m : State) (s : ℕ) (why : Why) (moment : ℤ) → IsSound m → m.holder ≡ None
-    → book.IsSound put_into (hung m s why moment).book → IsSound (hung m s why moment)
+    → book.IsSound put_into (step_hang m s why moment).book → IsSound (step_hang m s why moment)
 hung_sound m s why moment i free sound =
     let same = i.inboxes in
-    book_sound m (hung m s why moment).book m.holder i sound
+    book_sound m (step_hang m s why moment).book m.holder i sound
     (done_served m.book (kind.Hung s why) moment tt (i.set, i.clean)) (ap is_some (sym free))
     (done_length m.book (kind.Hung s why) moment)
     (λ t from to. done_carries m.book (kind.Hung s why) moment t
@@ -498,10 +501,10 @@ hung_sound m s why moment i free sound =
 -- a worker without a line begins a record that says nothing
 pub silent_sound : (m : State) (w : ℕ) (k : Kind) (moment : ℤ) → ((t : ℕ) → said_by k t ≡ []) → IsCleanKind k
     → IsSound m → m.holder ≡ None → 0 < w → w ≤ length m.jobs → job_of m w ≡ None
-    → book.IsSound put_into (book.begun m.book k moment) → IsSound (with_plan m w k moment)
+    → book.IsSound put_into (book.after_begin m.book k moment) → IsSound (with_plan m w k moment)
 silent_sound m w k moment silent is i free a l none sound =
     let same = i.inboxes in
-    book_sound m (book.begun m.book k moment) (Some w) i sound (begun_served m.book k moment is (i.set, i.clean))
+    book_sound m (book.after_begin m.book k moment) (Some w) i sound (begun_served m.book k moment is (i.set, i.clean))
     refl refl
     (λ t from to. begun_carries m.book k moment t
     (λ gone. away_before m.book t i.book from (omega arith) gone) (silent t))
@@ -527,18 +530,18 @@ reaped_box (Some w) b sendq xs here i e home = (
 
 pub reaped_sound : (m : State) (s : ℕ) → IsSound m → m.holder ≡ None → 0 < s
     → s ≤ length m.inboxes → is_here m.book.outboxes s ≡ true → is_home (inbox_at m s).place ≡ true
-    → book.IsSound put_into (reaped m s).book → IsSound (reaped m s)
+    → book.IsSound put_into (step_reap m s).book → IsSound (step_reap m s)
 reaped_sound m s i free above below here home sound =
     let b = inbox_at m s in let was = i.each s above below in
     let same = i.inboxes in
     let within : s - 1 < length m.book.outboxes = omega arith in
     let below_too : s ≤ length m.book.outboxes = omega arith in
-    let n : Shown Waiting = (reaped m s).book in
+    let n : Shown Waiting = (step_reap m s).book in
     let idle : m.book.plan ≡ [] = i.book.idle (i.lock ∙ ap is_some free) in
     let new : slice_index_or n.outboxes (s - 1) None
     ≡ None = get_or-set_same m.book.outboxes (s - 1) None None within in
     let all : deliveries (sent_by put_into (box_at m s)) ++ [] ≡ owed m.book.settings m.book.history s =
-    ap (λ ps. deliveries (sent_by put_into (box_at m s)) ++ book.planned ps s) (sym idle)
+    ap (λ ps. deliveries (sent_by put_into (box_at m s)) ++ book.plan_part ps s) (sym idle)
     ∙ i.book.owed s above below_too here in
     one_sound m n s (with_left b (queue_of m s)) m.jobs m.holder i sound (i.set, i.clean) above below i.lock
     (set_length m.book.outboxes (s - 1) None)
@@ -556,7 +559,7 @@ reaped_sound m s i free above below here home sound =
 
 open_carries : (m : Shown Waiting) (t : ℕ) (host : List ℕ) (moment : ℤ) (box : Waiting)
     → 0 < t → t ≤ length m.outboxes → (is_here m.outboxes t ≡ false → ShutBefore m.history t)
-    → Carries m (book.opened m host moment box) t
+    → Carries m (book.after_open m host moment box) t
 open_carries m t host moment box from to f =
     let within : t - 1 < length m.outboxes = omega arith in
     let k = kind.Opened (sessions m.history + 1) host in
@@ -564,7 +567,7 @@ open_carries m t host moment box from to f =
     record {
       accepted = c.accepted;
       box = subst (λ (o : Option Waiting). IsKeptBox (slice_index_or m.outboxes (t - 1) None) o
-          (owed m.settings m.history t) (owed m.settings (book.opened m host moment box).history t))
+          (owed m.settings m.history t) (owed m.settings (book.after_open m host moment box).history t))
           (sym (get_or_append_left m.outboxes (Some box ∷ []) None (t - 1) within)) c.box;
       before = c.before;
     }
@@ -582,9 +585,9 @@ new_batons jobs boxes holder b h i u e =
     )
 
 pub connected_sound : (m : State) (host : List ℕ) (moment : ℤ) → host_shape host ≡ true → IsSound m
-    → book.IsSound put_into (connected m host moment).book → IsSound (connected m host moment)
+    → book.IsSound put_into (step_connect m host moment).book → IsSound (step_connect m host moment)
 connected_sound m host moment shape i sound =
-    let n : Shown Waiting = (connected m host moment).book in
+    let n : Shown Waiting = (step_connect m host moment).book in
     let served = begun_served m.book (kind.Opened (sessions m.book.history + 1) host) moment shape (i.set, i.clean) in
     let box : Waiting = empty_ring m.sendq in
     let same = i.inboxes in

@@ -8,7 +8,7 @@ use Rattle.std.specs.List.{All, Contains}
 use Rattle.chronicle.specs.declared.record.Kind.TheVariants.{Said}
 use Rattle.chronicle.specs.History.{Rec}
 use Rattle.chronicle.specs.Journal.{Limit, most}
-use Rattle.labels_batches.specs.Rendered.{rendered}
+use Rattle.labels_batches.specs.Rendered.{text_as}
 use Rattle.labels_batches.specs.Whole.{OpensNoBatch}
 use Rattle.answer_octets.specs.Clean.{IsCleanAnswer}
 use Rattle.answer_octets.specs.Laws.{LoneIsWhole, OneItemCounts, OneLabel, SeveralAreWhole}
@@ -23,7 +23,7 @@ use Rattle.deeds.specs.Deeds.{facts}
 use Rattle.deliveries.specs.declared.delivery.Delivery.{Delivery}
 use Rattle.deliveries.specs.declared.delivery.Delivery.TheVariants.{Lines}
 use Rattle.deliveries.specs.Owed.{number_of, owed}
-use Rattle.ledger.specs.Ledger.{held}
+use Rattle.book.specs.Ledger.{kept_total}
 use Rattle.interleave.specs.Laws.{LabelledOnce, OnceInOrder, answer_to, copies_of, record_of, reply_to}
 use Rattle.interleave.specs.Order.{AreAfter, IsRising}
 use Rattle.interleave.specs.State.{IsSound, State}
@@ -82,7 +82,7 @@ answered-whole in-order labelled-once one-counts one-label lone several all-clea
     g history serves legal are small q is =
     let h = q.before in let s = q.session in let m = q.moment in let n = number_at q in
     let cs = caps (facts g h) s in let reply = reply_to g q in let copies = copies_of g q in
-    let text = rendered cs m (answer_to g q) in
+    let text = text_as cs m (answer_to g q) in
     let before = owed g h s in
     let once = labelled-once g history legal q is in
     let rest = once.0 in
@@ -125,4 +125,4 @@ pub play-whole : AnsweredOnceAndWhole → (m : State) → IsSound m → AreNamed
     → IsAnsweredOnceAndWhole m.book.settings m.book.history
 play-whole whole m i named =
     whole m.book.settings m.book.history (record { set = i.set; accounts = named }) i.book.legal i.clean
-    (few-records m.book.limit (length m.book.history) (held m.book.history) i.book.room)
+    (few-records m.book.limit (length m.book.history) (kept_total m.book.history) i.book.room)

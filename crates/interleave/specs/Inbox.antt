@@ -7,10 +7,10 @@ use Rattle.chronicle.specs.declared.record.Kind.TheVariants.{Said}
 use Rattle.deliveries.specs.declared.delivery.Delivery.{Delivery}
 use Rattle.interleave.specs.declared.worker.Place.{Place}
 use Rattle.interleave.specs.declared.worker.Place.TheVariants.{Home}
-use Rattle.outbox.specs.Ring.{Waiting}
-use Rattle.ledger.specs.Ledger.{Shown, Turn, Out, IsOut, MayBegin, begun}
+use Rattle.book.specs.Ring.{Waiting}
+use Rattle.book.specs.Ledger.{Shown, Turn, Out, IsOut, MayBegin, after_begin}
 use Rattle.interleave.specs.State.{Seen, nothing_fed}
-use Rattle.interleave.specs.Steps.{moved, with_left, with_fed, with_begun}
+use Rattle.interleave.specs.Steps.{with_place, with_left, with_fed, with_begun}
 
 -- what clauses see of it, and the session's baton until that is given up
 pub record Held : Type 0 where
@@ -22,12 +22,12 @@ with_seen b seen = record { seen = seen; turn = b.turn }
 
 -- the baton went elsewhere
 abbrev pub moved_to : Held → Place → Held
-moved_to b place = with_seen b (moved b.seen place)
+moved_to b place = with_seen b (with_place b.seen place)
 
 -- a line ended: the baton is at home and goes on
 abbrev pub ended_at : Held → Turn → Held
 ended_at b turn = record {
-  seen = moved b.seen Home;
+  seen = with_place b.seen Home;
   turn = Some (record { session = turn.session; next = turn.next + 1 });
 }
 
@@ -63,5 +63,5 @@ pub record IsBegun (b : Held) (m : Shown Waiting) (w : ℕ) (moment : ℤ) (p : 
   pub may : MayBegin m turn moment
   pub out : IsOut k p
   pub line : (p.session ≡ turn.session) × (p.next ≡ Some (turn.next + 1))
-  pub book : k ≡ begun m (Said turn.session turn.next piece) moment
+  pub book : k ≡ after_begin m (Said turn.session turn.next piece) moment
   pub inbox : c ≡ with_seen b (with_begun b.seen w rest)

@@ -1,8 +1,8 @@
 -- How what a play keeps stands for its book: this project's own choice.
 use Rattle.std.specs.Prelude.{◌≡◌, ℕ, ◌-◌, ◌<◌, ◌≤◌, Bool, cond, List, length, map, slice_index_or, Option, Some, None}
 use Rattle.chronicle.specs.History.{Rec, accepted}
-use Rattle.outbox.specs.Ring.{Waiting}
-use Rattle.ledger.specs.Ledger.{Shown, Turn, Out, IsOut, is_here}
+use Rattle.book.specs.Ring.{Waiting}
+use Rattle.book.specs.Ledger.{Shown, Turn, Out, IsOut, is_here}
 use Rattle.interleave.specs.declared.worker.Place.{Place}
 use Rattle.interleave.specs.declared.worker.Place.TheVariants.{Home, Hand, Begun}
 use Rattle.interleave.specs.declared.play.Holder.{Holder}

@@ -11,18 +11,18 @@ use Rattle.deliveries.specs.declared.delivery.Delivery.{Delivery}
 use Rattle.deliveries.specs.declared.delivery.Delivery.TheVariants.{Lines, Last}
 use Rattle.labels_batches.specs.declared.answers.Tagged.{Tagged}
 use Rattle.labels_batches.specs.Labels.{label_of}
-use Rattle.labels_batches.specs.Rendered.{rendered}
-use Rattle.labels_batches.specs.Answers.{answered}
+use Rattle.labels_batches.specs.Rendered.{text_as}
+use Rattle.labels_batches.specs.Answers.{whole_answer}
 use Rattle.labels_batches.specs.Whole.{HasLabelFirst, IsClosed, IsLone}
 use Rattle.roster.specs.LookBack.{caps}
 use Rattle.commands.specs.Asked.{asked_of}
-use Rattle.drafts.specs.declared.effect.Effect.{Effect}
-use Rattle.drafts.specs.Effects.{copies, reply}
+use Rattle.transactions.specs.declared.effect.Effect.{Effect}
+use Rattle.transactions.specs.Effects.{copies, reply}
 use Rattle.deeds.specs.Rows.{of_asked}
 use Rattle.deeds.specs.Deeds.{effects, facts}
 use Rattle.record_laws.specs.Laws.{AllShowOnce}
 use Rattle.deliveries.specs.Owed.{owed}
-use Rattle.ledger.specs.Legal.{IsLegal}
+use Rattle.book.specs.Legal.{IsLegal}
 use Rattle.interleave.specs.State.{State, IsSound, ForEach, inbox_at, taken_of}
 use Rattle.interleave.specs.Order.{IsPrefix, IsRising}
 
@@ -94,7 +94,7 @@ copies_of g q = copies (effects_of g q)
 
 -- the lines of its record to its session
 abbrev pub answer_to : Settings → Request → List Tagged
-answer_to g q = answered g.server (Some q.label) (length q.before + 1) (reply_to g q) (copies_of g q)
+answer_to g q = whole_answer g.server (Some q.label) (length q.before + 1) (reply_to g q) (copies_of g q)
 
 -- it is answered once: one delivery, after what was owed before it and before what is owed later, is those lines and
 -- no others as the session takes them
@@ -102,7 +102,7 @@ abbrev pub IsAnsweredOnce : Settings → List Rec → Type 0
 IsAnsweredOnce g history =
     (q : Request) → IsRequest g history q
     → (rest : List Delivery) × (owed g history q.session ≡ owed g q.before q.session ++ Lines (length q.before + 1)
-    (rendered (caps (facts g q.before) q.session) q.moment (answer_to g q)) ∷ rest)
+    (text_as (caps (facts g q.before) q.session) q.moment (answer_to g q)) ∷ rest)
 
 -- the first of those lines has the label, and no other
 abbrev pub IsLabelledFirst : Settings → List Rec → Type 0

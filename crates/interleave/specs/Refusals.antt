@@ -3,18 +3,18 @@ use Rattle.std.specs.Prelude.{◌≡◌, ◌≢◌, ℕ, ℤ, ◌||◌, Bool, tr
 use Rattle.std.specs.Prelude.{◌∷◌, length, Option, Some, None, IsSome}
 use Rattle.std.specs.Option.{is_some}
 use Rattle.chronicle.specs.History.{accepted}
-use Rattle.outbox.specs.Ring.{Waiting}
-use Rattle.ledger.specs.declared.refusals.OpenRefusal.{OpenRefusal}
-use Rattle.ledger.specs.declared.refusals.OpenRefusal.TheVariants as opening
-use Rattle.ledger.specs.declared.refusals.LineRefusal.{LineRefusal}
-use Rattle.ledger.specs.declared.refusals.LineRefusal.TheVariants as accepting
-use Rattle.ledger.specs.declared.refusals.SweepRefusal.{SweepRefusal}
-use Rattle.ledger.specs.declared.refusals.SweepRefusal.TheVariants as sweeping
-use Rattle.ledger.specs.declared.refusals.TickRefusal.{TickRefusal}
-use Rattle.ledger.specs.declared.refusals.TickRefusal.TheVariants as ticking
-use Rattle.ledger.specs.Ledger.{Shown, Turn, MayOpen, MayBegin, MaySweep, MayTick, IsSomebodyQuiet, HasRoom, to_sweep}
-use Rattle.ledger.specs.Ledger.{IsOpenRefusal, IsLineRefusal, IsHangRefusal, IsSweepRefusal, IsTickRefusal}
-use Rattle.ledger.specs.Ledger.{IsReapRefusal}
+use Rattle.book.specs.Ring.{Waiting}
+use Rattle.book.specs.OpenRefusal.{OpenRefusal}
+use Rattle.book.specs.OpenRefusal.TheVariants as opening
+use Rattle.book.specs.LineRefusal.{LineRefusal}
+use Rattle.book.specs.LineRefusal.TheVariants as accepting
+use Rattle.book.specs.SweepRefusal.{SweepRefusal}
+use Rattle.book.specs.SweepRefusal.TheVariants as sweeping
+use Rattle.book.specs.TickRefusal.{TickRefusal}
+use Rattle.book.specs.TickRefusal.TheVariants as ticking
+use Rattle.book.specs.Ledger.{Shown, Turn, MayOpen, MayBegin, MaySweep, MayTick, IsSomebodyIdle, HasRoom, to_sweep}
+use Rattle.book.specs.Ledger.{IsOpenRefusal, IsLineRefusal, IsHangRefusal, IsSweepRefusal, IsTickRefusal}
+use Rattle.book.specs.Ledger.{IsReapRefusal}
 use Rattle.interleave.specs.declared.event.Event.{Event}
 use Rattle.interleave.specs.declared.event.Event.TheVariants.{Connect, Feed, Pick, Begin, Put, End, Back}
 use Rattle.interleave.specs.declared.event.Event.TheVariants.{Take, Hang, Sweep, Tick, Reap}
@@ -37,8 +37,8 @@ no_session m s later = cond (is_known m s) later (Some NoSession)
 abbrev pub no_worker : State → ℕ → Option StepRefusal → Option StepRefusal
 no_worker m w later = cond (is_worker m w) later (Some NoWorker)
 
-abbrev pub locked : State → Option StepRefusal → Option StepRefusal
-locked m later = cond (is_some m.holder) (Some Locked) later
+abbrev pub not_free : State → Option StepRefusal → Option StepRefusal
+not_free m later = cond (is_some m.holder) (Some Locked) later
 
 abbrev pub not_holding : State → ℕ → Option StepRefusal → Option StepRefusal
 not_holding m w later = cond (holds m.holder w) later (Some NotHolding)
@@ -66,18 +66,18 @@ holds_lock m w = cond (holds m.holder w) (Some Locked) None
 
 -- a step's own causes, in order
 abbrev pub own_refusal : State → Event → Option StepRefusal
-own_refusal m (Connect host moment) = locked m None
+own_refusal m (Connect host moment) = not_free m None
 own_refusal m (Feed s octets) = no_session m s None
 own_refusal m (Pick w s) = no_worker m w (no_session m s (has_job m w (in_flight m s (nothing_read m s))))
-own_refusal m (Begin w moment) = no_worker m w (locked m (no_job m w None))
+own_refusal m (Begin w moment) = no_worker m w (not_free m (no_job m w None))
 own_refusal m (Put w) = no_worker m w (not_holding m w (nothing_left m))
 own_refusal m (End w) = no_worker m w (not_holding m w (puts_left m))
 own_refusal m (Back w) = no_worker m w (no_job m w (holds_lock m w))
 own_refusal m (Take s) = no_session m s None
-own_refusal m (Hang w s why moment) = no_worker m w (locked m None)
-own_refusal m (Sweep w moment) = no_worker m w (locked m (has_job m w None))
-own_refusal m (Tick w moment) = no_worker m w (locked m (has_job m w None))
-own_refusal m (Reap s) = no_session m s (locked m (in_flight m s None))
+own_refusal m (Hang w s why moment) = no_worker m w (not_free m None)
+own_refusal m (Sweep w moment) = no_worker m w (not_free m (has_job m w None))
+own_refusal m (Tick w moment) = no_worker m w (not_free m (has_job m w None))
+own_refusal m (Reap s) = no_session m s (not_free m (in_flight m s None))
 
 -- ---- where none of these holds, the book's causes come, and want of memory. Pick, Put, End, Back, Take, Hang and
 -- Reap take no memory
@@ -128,7 +128,7 @@ IsSweepRefused m moment r = ⊥
 
 abbrev pub IsTickRefused : Shown Waiting → ℤ → StepRefusal → Type 0
 IsTickRefused m moment (Book (by_book.Tick e)) = IsTickRefusal m moment e × (e ≢ ticking.Memory)
-IsTickRefused m moment Memory = MayTick m moment × IsSomebodyQuiet m moment × HasRoom m
+IsTickRefused m moment Memory = MayTick m moment × IsSomebodyIdle m moment × HasRoom m
 IsTickRefused m moment r = ⊥
 
 abbrev pub IsReapRefused : Shown Waiting → ℕ → StepRefusal → Type 0

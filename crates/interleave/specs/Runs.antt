@@ -26,9 +26,9 @@ sent_by t e (Err r) = []
 sent_by t e (Ok n) = fed_by t e
 
 -- in order
-abbrev pub sent : ℕ → List Event → List (Result Note StepRefusal) → List ℕ
-sent t (e ∷ es) (r ∷ rs) = sent_by t e r ++ sent t es rs
-sent t es rs = []
+abbrev pub sent_in : ℕ → List Event → List (Result Note StepRefusal) → List ℕ
+sent_in t (e ∷ es) (r ∷ rs) = sent_by t e r ++ sent_in t es rs
+sent_in t es rs = []
 
 -- the item that an answer hands out
 abbrev pub item_of : Note → List Delivery
@@ -45,6 +45,6 @@ took_by t e (Err r) = []
 took_by t e (Ok n) = handed_by t e n
 
 -- in order
-abbrev pub took : ℕ → List Event → List (Result Note StepRefusal) → List Delivery
-took t (e ∷ es) (r ∷ rs) = took_by t e r ++ took t es rs
-took t es rs = []
+abbrev pub taken_in : ℕ → List Event → List (Result Note StepRefusal) → List Delivery
+taken_in t (e ∷ es) (r ∷ rs) = took_by t e r ++ taken_in t es rs
+taken_in t es rs = []

@@ -9,11 +9,11 @@ use Rattle.registration.specs.declared.settings.Settings.{Settings}
 use Rattle.registration.specs.Settings.{IsWellSet}
 use Rattle.clean_records.specs.Clean.{IsCleanHistory}
 use Rattle.deliveries.specs.declared.delivery.Delivery.{Delivery}
-use Rattle.outbox.specs.Ring.{Waiting, put_into}
+use Rattle.book.specs.Ring.{Waiting, put_into}
 use Rattle.deliveries.specs.Owed.{owed}
 use Rattle.deliveries.specs.Items.{deliveries}
-use Rattle.ledger.specs.Ledger.{is_here, planned}
-use Rattle.ledger.specs.Ledger as book
+use Rattle.book.specs.Ledger.{is_here, plan_part}
+use Rattle.book.specs.Ledger as book
 use Rattle.interleave.specs.declared.worker.Place.{Place}
 use Rattle.interleave.specs.declared.worker.Place.TheVariants.{Home, Hand, Begun}
 
@@ -85,7 +85,7 @@ queue_of m t = waits (box_at m t) (inbox_at m t).left
 
 -- what the plan that is out still has for session t
 abbrev pub planned_for : State → ℕ → List Delivery
-planned_for m t = planned m.book.plan t
+planned_for m t = plan_part m.book.plan t
 
 -- ---- workers
 

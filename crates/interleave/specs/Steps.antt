@@ -9,17 +9,17 @@ use Rattle.casemapping.specs.Names.{host_shape}
 use Rattle.chronicle.specs.declared.record.Kind.TheVariants as kind
 use Rattle.chronicle.specs.declared.why.Why.{Why}
 use Rattle.chronicle.specs.History.{Rec, sessions, accepted, shut, actor}
-use Rattle.chronicle.specs.Quiet.{is_tick}
+use Rattle.chronicle.specs.Idle.{is_tick}
 use Rattle.deliveries.specs.declared.delivery.Delivery.{Delivery}
-use Rattle.outbox.specs.Ring.{empty_ring}
-use Rattle.ledger.specs.declared.out.Done.{Done}
-use Rattle.ledger.specs.declared.out.Hung.{Hung}
-use Rattle.ledger.specs.declared.out.Step.{Step}
-use Rattle.ledger.specs.declared.out.Step.TheVariants as step
-use Rattle.ledger.specs.Ledger.{MayOpen, MayBegin, MayHang, MaySweep, MayTick, MayReap}
-use Rattle.ledger.specs.Ledger.{HasRoom, newest_missed, to_sweep, to_ping}
-use Rattle.ledger.specs.Ledger as book
-use Rattle.ledger.specs.Told.{told_of}
+use Rattle.book.specs.Ring.{empty_ring}
+use Rattle.book.specs.Done.{Done}
+use Rattle.book.specs.Hung.{Hung}
+use Rattle.book.specs.Step.{Step}
+use Rattle.book.specs.Step.TheVariants as step
+use Rattle.book.specs.Ledger.{MayOpen, MayBegin, MayHang, MaySweep, MayTick, MayReap}
+use Rattle.book.specs.Ledger.{HasRoom, newest_missed, to_sweep, to_ping}
+use Rattle.book.specs.Ledger as book
+use Rattle.book.specs.RingAnswers.{told_of}
 use Rattle.interleave.specs.declared.worker.Place.{Place}
 use Rattle.interleave.specs.declared.worker.Place.TheVariants.{Home, Hand, Begun}
 use Rattle.interleave.specs.declared.event.Event.{Event}
@@ -55,8 +55,8 @@ abbrev pub with_job : State → ℕ → Option ℕ → List (Option ℕ)
 with_job m w j = slice_set m.jobs (w - 1) j
 
 -- a session's baton went elsewhere
-abbrev pub moved : Seen → Place → Seen
-moved b place = record { fed = b.fed; pending = b.pending; place = place; taken = b.taken; left = b.left }
+abbrev pub with_place : Seen → Place → Seen
+with_place b place = record { fed = b.fed; pending = b.pending; place = place; taken = b.taken; left = b.left }
 
 -- one more item was taken of a session
 abbrev pub with_taken : Seen → Delivery → Seen
@@ -81,9 +81,9 @@ with_fed b octets added = record {
 }
 
 -- one more session, of which nothing was read
-abbrev pub connected : State → List ℕ → ℤ → State
-connected m host moment = record {
-  book = book.opened m.book host moment (empty_ring m.sendq);
+abbrev pub step_connect : State → List ℕ → ℤ → State
+step_connect m host moment = record {
+  book = book.after_open m.book host moment (empty_ring m.sendq);
   sendq = m.sendq;
   inboxes = m.inboxes ++ nothing_fed ∷ [];
   jobs = m.jobs;
@@ -91,8 +91,8 @@ connected m host moment = record {
 }
 
 -- octets were fed to a session, and lines ended in them
-abbrev pub fed : State → ℕ → List ℕ → List Piece → State
-fed m s octets added = record {
+abbrev pub step_feed : State → ℕ → List ℕ → List Piece → State
+step_feed m s octets added = record {
   book = m.book;
   sendq = m.sendq;
   inboxes = with_inbox m s (with_fed (inbox_at m s) octets added);
@@ -101,20 +101,20 @@ fed m s octets added = record {
 }
 
 -- a worker has a session's baton and its first unread line
-abbrev pub picked : State → ℕ → ℕ → State
-picked m w s = record {
+abbrev pub step_pick : State → ℕ → ℕ → State
+step_pick m w s = record {
   book = m.book;
   sendq = m.sendq;
-  inboxes = with_inbox m s (moved (inbox_at m s) (Hand w));
+  inboxes = with_inbox m s (with_place (inbox_at m s) (Hand w));
   jobs = with_job m w (Some s);
   holder = m.holder;
 }
 
 -- a line is accepted, its deliveries are planned, and its worker holds the lock
-abbrev pub begun : State → ℕ → ℕ → Piece → List Piece → ℤ → State
-begun m w s piece rest moment =
+abbrev pub step_begin : State → ℕ → ℕ → Piece → List Piece → ℤ → State
+step_begin m w s piece rest moment =
     record {
-      book = book.begun m.book (kind.Said s (length (accepted m.book.history s)) piece) moment;
+      book = book.after_begin m.book (kind.Said s (length (accepted m.book.history s)) piece) moment;
       sendq = m.sendq;
       inboxes = with_inbox m s (with_begun (inbox_at m s) w rest);
       jobs = m.jobs;
@@ -122,8 +122,8 @@ begun m w s piece rest moment =
     }
 
 -- the plan's first delivery was put, or missed where its outbox was full
-abbrev pub put : State → State
-put m = record {
+abbrev pub step_put : State → State
+step_put m = record {
   book = book.put_next m.book m.book.plan;
   sendq = m.sendq;
   inboxes = m.inboxes;
@@ -132,18 +132,18 @@ put m = record {
 }
 
 -- the lock is free, and the baton is back where the plan was a line's
-abbrev pub ended : State → ℕ → Option ℕ → State
-ended m w None = record {
-  book = book.finished m.book;
+abbrev pub step_end : State → ℕ → Option ℕ → State
+step_end m w None = record {
+  book = book.after_end m.book;
   sendq = m.sendq;
   inboxes = m.inboxes;
   jobs = m.jobs;
   holder = None;
 }
-ended m w (Some s) = record {
-  book = book.finished m.book;
+step_end m w (Some s) = record {
+  book = book.after_end m.book;
   sendq = m.sendq;
-  inboxes = with_inbox m s (moved (inbox_at m s) Home);
+  inboxes = with_inbox m s (with_place (inbox_at m s) Home);
   jobs = with_job m w None;
   holder = None;
 }
@@ -153,15 +153,15 @@ abbrev pub back : State → ℕ → ℕ → State
 back m w s = record {
   book = m.book;
   sendq = m.sendq;
-  inboxes = with_inbox m s (moved (inbox_at m s) Home);
+  inboxes = with_inbox m s (with_place (inbox_at m s) Home);
   jobs = with_job m w None;
   holder = m.holder;
 }
 
 -- what waited longest for a session was taken
-abbrev pub took : State → ℕ → Delivery → State
-took m s x = record {
-  book = book.taken m.book s;
+abbrev pub step_take : State → ℕ → Delivery → State
+step_take m s x = record {
+  book = book.after_take m.book s;
   sendq = m.sendq;
   inboxes = with_inbox m s (with_taken (inbox_at m s) x);
   jobs = m.jobs;
@@ -169,9 +169,9 @@ took m s x = record {
 }
 
 -- a session was ended, and its last item was put or missed at once
-abbrev pub hung : State → ℕ → Why → ℤ → State
-hung m s why moment = record {
-  book = book.done m.book (kind.Hung s why) moment;
+abbrev pub step_hang : State → ℕ → Why → ℤ → State
+step_hang m s why moment = record {
+  book = book.after_all m.book (kind.Hung s why) moment;
   sendq = m.sendq;
   inboxes = m.inboxes;
   jobs = m.jobs;
@@ -179,19 +179,19 @@ hung m s why moment = record {
 }
 
 -- a session is gone, its deliveries are planned, and a worker holds the lock
-abbrev pub swept : State → ℕ → ℕ → ℤ → State
-swept m w s moment = record {
-  book = book.begun m.book (kind.Gone s) moment;
+abbrev pub step_sweep : State → ℕ → ℕ → ℤ → State
+step_sweep m w s moment = record {
+  book = book.after_begin m.book (kind.Gone s) moment;
   sendq = m.sendq;
   inboxes = m.inboxes;
   jobs = m.jobs;
   holder = Some w;
 }
 
--- the quiet are pinged, their deliveries are planned, and a worker holds the lock
-abbrev pub ticked : State → ℕ → ℤ → State
-ticked m w moment = record {
-  book = book.begun m.book kind.Ticked moment;
+-- the idle are pinged, their deliveries are planned, and a worker holds the lock
+abbrev pub step_tick : State → ℕ → ℤ → State
+step_tick m w moment = record {
+  book = book.after_begin m.book kind.Ticked moment;
   sendq = m.sendq;
   inboxes = m.inboxes;
   jobs = m.jobs;
@@ -199,9 +199,9 @@ ticked m w moment = record {
 }
 
 -- a session was given up, and what waited for it was set aside
-abbrev pub reaped : State → ℕ → State
-reaped m s = record {
-  book = book.reaped m.book s;
+abbrev pub step_reap : State → ℕ → State
+step_reap m s = record {
+  book = book.after_reap m.book s;
   sendq = m.sendq;
   inboxes = with_inbox m s (with_left (inbox_at m s) (queue_of m s));
   jobs = m.jobs;
@@ -213,7 +213,7 @@ reaped m s = record {
 abbrev pub IsFeed : State → ℕ → List ℕ → Note → State → Type 0
 IsFeed m s octets n k = (added : List Piece)
     × (lines ((inbox_at m s).fed ++ octets) ≡ lines (inbox_at m s).fed ++ added) × (n ≡ note.Read (length added))
-    × (k ≡ fed m s octets added)
+    × (k ≡ step_feed m s octets added)
 
 -- of the session whose line the worker has
 abbrev pub IsBegin : State → ℕ → Option ℕ → ℤ → Note → State → Type 0
@@ -221,14 +221,14 @@ IsBegin m w None moment n k = ⊥
 IsBegin m w (Some s) moment n k =
     (piece : Piece) × (rest : List Piece) × ((inbox_at m s).pending ≡ piece ∷ rest)
     × MayBegin m.book (turn_of m.book s) moment × (n ≡ note.Record (length m.book.history + 1))
-    × (k ≡ begun m w s piece rest moment)
+    × (k ≡ step_begin m w s piece rest moment)
 
-abbrev pub noted : Step → Note
-noted (step.Put s) = note.Put s
-noted (step.Missed s) = note.Missed s
+abbrev pub note_of : Step → Note
+note_of (step.Put s) = note.Put s
+note_of (step.Missed s) = note.Missed s
 
 abbrev pub IsPut : State → Note → State → Type 0
-IsPut m n k = (s : Step) × (told_of m.book m.book.plan ≡ Some s) × (n ≡ noted s) × (k ≡ put m)
+IsPut m n k = (s : Step) × (told_of m.book m.book.plan ≡ Some s) × (n ≡ note_of s) × (k ≡ step_put m)
 
 -- whether the session of the newest record is shut; a tick has none
 abbrev pub is_actor_shut : List Rec → Bool
@@ -239,7 +239,7 @@ is_actor_shut (r ∷ h) = not (is_tick r.kind) && shut (r ∷ h) (actor r.kind)
 abbrev pub IsEnd : State → ℕ → Note → State → Type 0
 IsEnd m w n k =
     (d : Done) × (n ≡ note.Done d) × (d.number ≡ length m.book.history) × (d.missed ≡ newest_missed m.book.history)
-    × (d.shut ≡ is_actor_shut m.book.history) × (k ≡ ended m w (job_of m w))
+    × (d.shut ≡ is_actor_shut m.book.history) × (k ≡ step_end m w (job_of m w))
 
 abbrev pub IsBack : State → ℕ → Option ℕ → Note → State → Type 0
 IsBack m w None n k = ⊥
@@ -248,29 +248,29 @@ IsBack m w (Some s) n k = (n ≡ note.Back) × (k ≡ back m w s)
 -- of what waits longest
 abbrev pub IsTake : State → ℕ → Option Delivery → Note → State → Type 0
 IsTake m s None n k = (n ≡ note.Empty) × (k ≡ m)
-IsTake m s (Some x) n k = (n ≡ note.Item x) × (k ≡ took m s x)
+IsTake m s (Some x) n k = (n ≡ note.Item x) × (k ≡ step_take m s x)
 
 abbrev pub IsHang : State → ℕ → Why → ℤ → Note → State → Type 0
 IsHang m s why moment n k =
     (d : Hung) × (n ≡ note.Hung d) × MayHang m.book s moment × (d.number ≡ length m.book.history + 1)
-    × (d.missed ≡ list_any (λ u. u == s) (newest_missed k.book.history)) × (k ≡ hung m s why moment)
+    × (d.missed ≡ list_any (λ u. u == s) (newest_missed k.book.history)) × (k ≡ step_hang m s why moment)
 
 -- of the session that is to be swept
 abbrev pub IsSweep : State → ℕ → Option ℕ → ℤ → Note → State → Type 0
 IsSweep m w None moment n k = (n ≡ note.Swept None) × (k ≡ m)
-IsSweep m w (Some s) moment n k = (n ≡ note.Swept (Some (length m.book.history + 1))) × (k ≡ swept m w s moment)
+IsSweep m w (Some s) moment n k = (n ≡ note.Swept (Some (length m.book.history + 1))) × (k ≡ step_sweep m w s moment)
 
 -- of those who are to be pinged
 abbrev pub IsTick : State → ℕ → List ℕ → ℤ → Note → State → Type 0
 IsTick m w [] moment n k = (n ≡ note.Ticked None) × (k ≡ m)
 IsTick m w (t ∷ ts) moment n k = HasRoom m.book × (n ≡ note.Ticked (Some (length m.book.history + 1)))
-    × (k ≡ ticked m w moment)
+    × (k ≡ step_tick m w moment)
 
 abbrev pub IsDone : State → Event → Note → State → Type 0
 IsDone m (Connect host moment) n k = MayOpen m.book moment × (n ≡ note.Session (sessions m.book.history + 1))
-    × (k ≡ connected m host moment)
+    × (k ≡ step_connect m host moment)
 IsDone m (Feed s octets) n k = IsFeed m s octets n k
-IsDone m (Pick w s) n k = (n ≡ note.Picked) × (k ≡ picked m w s)
+IsDone m (Pick w s) n k = (n ≡ note.Picked) × (k ≡ step_pick m w s)
 IsDone m (Begin w moment) n k = IsBegin m w (job_of m w) moment n k
 IsDone m (Put w) n k = IsPut m n k
 IsDone m (End w) n k = IsEnd m w n k
@@ -279,7 +279,7 @@ IsDone m (Take s) n k = IsTake m s (slice_get (queue_of m s) 0) n k
 IsDone m (Hang w s why moment) n k = IsHang m s why moment n k
 IsDone m (Sweep w moment) n k = MaySweep m.book moment × IsSweep m w (to_sweep m.book.history) moment n k
 IsDone m (Tick w moment) n k = MayTick m.book moment × IsTick m w (to_ping m.book.history moment) moment n k
-IsDone m (Reap s) n k = MayReap m.book s × (n ≡ note.Left (length (queue_of m s))) × (k ≡ reaped m s)
+IsDone m (Reap s) n k = MayReap m.book s × (n ≡ note.Left (length (queue_of m s))) × (k ≡ step_reap m s)
 
 -- one event, its answer, and the state after it. A refusal changes nothing
 abbrev pub IsStep : State → Event → Result Note StepRefusal → State → Type 0

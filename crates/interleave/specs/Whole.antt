@@ -5,7 +5,7 @@ use Rattle.std.specs.List.{Contains}
 use Rattle.chronicle.specs.History.{Rec}
 use Rattle.registration.specs.declared.settings.Settings.{Settings}
 use Rattle.labels_batches.specs.Answers.{tagged_as}
-use Rattle.labels_batches.specs.Rendered.{rendered}
+use Rattle.labels_batches.specs.Rendered.{text_as}
 use Rattle.answer_octets.specs.Laws.{IsBatchText, IsLoneText}
 use Rattle.answer_octets.specs.TextLines.{label_answers}
 use Rattle.clean_records.specs.Clean.{IsCleanHistory, IsServing}
@@ -15,7 +15,7 @@ use Rattle.deliveries.specs.declared.delivery.Delivery.{Delivery}
 use Rattle.deliveries.specs.declared.delivery.Delivery.TheVariants.{Lines}
 use Rattle.deliveries.specs.Owed.{number_of, owed}
 use Rattle.deliveries.specs.Text.{delivery_text}
-use Rattle.ledger.specs.Legal.{IsLegal}
+use Rattle.book.specs.Legal.{IsLegal}
 use Rattle.interleave.specs.Laws.{IsRequest, Request, copies_of}
 
 -- a delivery as its number and its octets, on the link from this host
@@ -28,7 +28,7 @@ number_at q = length q.before + 1
 
 -- the octets of what its session sent to itself
 abbrev pub copies_text : Settings → Request → List ℕ
-copies_text g q = rendered (caps (facts g q.before) q.session) q.moment (map (tagged_as None) (copies_of g q))
+copies_text g q = text_as (caps (facts g q.before) q.session) q.moment (map (tagged_as None) (copies_of g q))
 
 -- among all lines of the deliveries of its record's number one has a label; and the answer is one of these deliveries,
 -- and whole: one line that opens no batch, or a batch that is closed

@@ -2,14 +2,14 @@
 ghost use Rattle.std.specs.Prelude.{◌≡◌};
 ghost use Rattle.interleave.specs.declared.event.StepRefusal.TheVariants as refused;
 ghost use Rattle.interleave.specs.Refusals.{of_open, of_line, of_sweep, of_tick};
-ghost use Rattle.interleave.specs.Steps.{noted};
+ghost use Rattle.interleave.specs.Steps.{note_of};
 
 use crate::worker::WorkerId;
-use chronicle::{Moment, RecordNumber, SessionId, Why};
-use ledger::{
+use book::{
     Delivery, Done, HangRefusal, Hung, LineRefusal, OpenRefusal, ReapRefusal, Step, SweepRefusal,
     TickRefusal,
 };
+use chronicle::{Moment, RecordNumber, SessionId, Why};
 use line_grammar::Octets;
 use std::alloc::AllocError;
 
@@ -64,7 +64,7 @@ pub enum Event {
         worker: WorkerId,
         moment: Moment,
     },
-    /// A worker takes the lock to ping whoever is quiet, if there is somebody.
+    /// A worker takes the lock to ping whoever is idle, if there is somebody.
     Tick {
         worker: WorkerId,
         moment: Moment,
@@ -102,7 +102,7 @@ pub enum Note {
     Hung(Hung),
     /// The number of the record that says that a session is gone, or that there was none to sweep.
     Swept(Option<RecordNumber>),
-    /// The number of the record that pings whoever is quiet, or that there was nobody to ping.
+    /// The number of the record that pings whoever is idle, or that there was nobody to ping.
     Ticked(Option<RecordNumber>),
     /// How many items were left for the session.
     Left(u64),
@@ -224,7 +224,7 @@ pub(crate) fn of_tick(refusal: TickRefusal) -> StepRefusal
 
 /// What became of a delivery.
 pub(crate) fn of_put(step: Step) -> Note
-    ensures { result ≡ noted step }
+    ensures { result ≡ note_of step }
 {
     match step {
         Step::Put(session) => Note::Put(session),

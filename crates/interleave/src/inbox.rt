@@ -7,7 +7,7 @@ ghost use Rattle.std.specs.Prelude.{IfOk, IfErr, IfSome, IsSome, OnErr, OnOk};
 ghost use Rattle.std.specs.Option.{is_some};
 ghost use Rattle.chronicle.specs.History.{shut};
 ghost use Rattle.deliveries.specs.Items.{deliveries};
-ghost use Rattle.ledger.specs.Ledger.{IsOut, MayReap, IsReapRefusal, finished, newest_missed, outbox_at, reaped};
+ghost use Rattle.book.specs.Ledger.{IsOut, MayReap, IsReapRefusal, after_end, newest_missed, outbox_at, after_reap};
 ghost use Rattle.interleave.specs.Refusals.{IsLineRefused};
 ghost use Rattle.interleave.specs.Steps.{with_taken};
 ghost use Rattle.interleave.specs.Inbox.{Held, IsRead, IsBegun, held_at, with_held};
@@ -16,11 +16,10 @@ ghost use Rattle.interleave.specs.Inbox.{with_seen, moved_to, ended_at, reaped_a
 use crate::event::{StepRefusal, of_line};
 use crate::tokens::Tokens;
 use crate::worker::{Place, WorkerId};
-use book::{Book, Done, Naming, Plan, ReapRefusal, Ring};
+use book::{Book, Delivery, Done, Naming, Plan, ReapRefusal, Ring};
 use chronicle::{Moment, SessionId};
-use ghosts::{Change, Snapshot, append, append_all, apply, blank, copied};
-use ledger::Delivery;
 use line_grammar::{Piece, Splitter};
+use snapshots::{GhostChange, Snapshot, append, append_all, apply, blank, copy_of};
 use std::alloc::{AllocError, Global};
 use std::collections::{LinkedList, VecDeque};
 use std::marker::Model;
@@ -78,8 +77,8 @@ fn move_up(alloc: Global, next: &mut VecDeque<Piece>, arrived: &mut Vec<Piece>)
 // What waits in the outbox of a session.
 struct LeftIn;
 
-impl<'a, L: Naming> Change<LinkedList<Delivery>, (&'a Book<L, Ring>, SessionId)> for LeftIn {
-    ghost use Rattle.ledger.specs.Ledger.{outbox_at};
+impl<'a, L: Naming> GhostChange<LinkedList<Delivery>, (&'a Book<L, Ring>, SessionId)> for LeftIn {
+    ghost use Rattle.book.specs.Ledger.{outbox_at};
 
     ghost changed = { λ xs by. deliveries (outbox_at by.0.now.outboxes by.1).queue };
 }
@@ -192,7 +191,7 @@ impl<L: Naming> Inbox<L> {
         requires line { IfSome self.old.turn
             (λ turn. (plan.session ≡ turn.session) × (plan.next ≡ Some (turn.next + 1))) }
         ensures inbox { IfSome self.old.turn (λ turn. self.new ≡ ended_at self.old turn) }
-        ensures book { book.new ≡ finished book.old }
+        ensures book { book.new ≡ after_end book.old }
         ensures number { result.number ≡ length book.old.history }
         ensures missed { result.missed ≡ newest_missed book.old.history }
         ensures shut { IfSome self.old.turn
@@ -211,7 +210,7 @@ impl<L: Naming> Inbox<L> {
         ensures ok { IfSome self.old.turn (λ turn. OnOk result (self.new
             ≡ reaped_at self.old (deliveries (outbox_at book.old.outboxes turn.session).queue))) }
         ensures book { IfSome self.old.turn
-            (λ turn. OnOk result (book.new ≡ reaped book.old turn.session)) }
+            (λ turn. OnOk result (book.new ≡ after_reap book.old turn.session)) }
         ensures left { IfSome self.old.turn (λ turn. IfOk result
             (λ n. n ≡ length (outbox_at book.old.outboxes turn.session).queue)) }
         ensures may { IfSome self.old.turn (λ turn. OnOk result (MayReap book.old turn.session)) }
@@ -222,7 +221,7 @@ impl<L: Naming> Inbox<L> {
         let Some(tokens) = self.tokens.take() else {
             unreachable!();
         };
-        let mut left = copied(&self.left);
+        let mut left = copy_of(&self.left);
         let session = tokens.session();
         apply::<LeftIn, LinkedList<Delivery>, (&Book<L, Ring>, SessionId)>(
             &mut left,
@@ -321,7 +320,7 @@ pub(crate) fn end<L: Naming>(
         (λ turn. (plan.session ≡ turn.session) × (plan.next ≡ Some (turn.next + 1))) }
     ensures inboxes { IfSome (held_at inboxes.old.items session).turn (λ turn. inboxes.new.items
         ≡ with_held inboxes.old.items session (ended_at (held_at inboxes.old.items session) turn)) }
-    ensures book { book.new ≡ finished book.old }
+    ensures book { book.new ≡ after_end book.old }
     ensures number { result.number ≡ length book.old.history }
     ensures missed { result.missed ≡ newest_missed book.old.history }
     ensures shut { IfSome (held_at inboxes.old.items session).turn
@@ -344,7 +343,7 @@ pub(crate) fn reap<L: Naming>(
         ≡ with_held inboxes.old.items session (reaped_at (held_at inboxes.old.items session)
         (deliveries (outbox_at book.old.outboxes turn.session).queue)))) }
     ensures book { IfSome (held_at inboxes.old.items session).turn
-        (λ turn. OnOk result (book.new ≡ reaped book.old turn.session)) }
+        (λ turn. OnOk result (book.new ≡ after_reap book.old turn.session)) }
     ensures left { IfSome (held_at inboxes.old.items session).turn
         (λ turn. IfOk result (λ n. n ≡ length (outbox_at book.old.outboxes turn.session).queue)) }
     ensures may { IfSome (held_at inboxes.old.items session).turn

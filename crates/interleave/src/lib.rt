@@ -8,17 +8,16 @@ mod play;
 mod tokens;
 mod worker;
 
-pub use book::{Naming, Register};
+pub use book::{
+    Delivery, Done, HangRefusal, Hung, Ledger, LineRefusal, Naming, OpenRefusal, ReapRefusal,
+    Register, Sessions, Settings, SweepRefusal, TickRefusal,
+};
 pub use chronicle::{Moment, RecordNumber, SessionId, Why};
 pub use event::{BookRefusal, Event, Note, PlayRefusal, StepRefusal};
 pub use laws::{
     accepted_is_prefix_of_sent, answered_once_and_whole, batch_closed,
     error_at_most_after_the_close, heard_once, labelled_first, labelled_once, lone_line_unbatched,
     once_in_order, taken_in_order,
-};
-pub use ledger::{
-    Delivery, Done, HangRefusal, Hung, Ledger, LineRefusal, OpenRefusal, ReapRefusal, Sessions,
-    Settings, SweepRefusal, TickRefusal,
 };
 pub use line_grammar::{Octets, Piece};
 pub use play::Play;

@@ -9,11 +9,11 @@ ghost use Rattle.std.specs.Prelude.{slice_set, Some, None, IfOk, IfErr, IfSome, 
 ghost use Rattle.std.specs.Option.{is_some};
 ghost use Rattle.chronicle.specs.History.{accepted};
 ghost use Rattle.line_grammar.specs.Lines.{lines};
-ghost use Rattle.ledger.specs.Legal.{IsLegal};
+ghost use Rattle.book.specs.Legal.{IsLegal};
 ghost use Rattle.deliveries.specs.Owed.{owed};
 ghost use Rattle.casemapping.specs.Names.{host_shape};
-ghost use Rattle.ledger.specs.Ledger.{IsOut, empty_ledger, finished, late, newest_missed};
-ghost use Rattle.ledger.specs.Settings.{IsWellSet as IsBookSet};
+ghost use Rattle.book.specs.Ledger.{IsOut, empty_ledger, after_end, late, newest_missed};
+ghost use Rattle.book.specs.Settings.{IsWellSet as IsBookSet};
 ghost use Rattle.interleave.specs.Limits.{IsWellSet};
 ghost use Rattle.interleave.specs.Steps.{is_actor_shut};
 
@@ -29,9 +29,8 @@ use crate::laws::{
 };
 use crate::tokens::Tokens;
 use crate::worker::{Place, WorkerId};
-use book::{Book, BookFault, Done, Naming, Plan, Register, Ring, Settings, TakeRefusal};
+use book::{Book, BookFault, Done, Ledger, Naming, Plan, Register, Ring, Settings, TakeRefusal};
 use chronicle::{Moment, SessionId, Why};
-use ledger::Ledger;
 use line_grammar::Octets;
 use std::alloc::{AllocError, Global};
 use std::hash::RandomState;
@@ -128,7 +127,7 @@ fn finish<L: Naming>(book: &mut Book<L, Ring>, plan: Plan) -> Done
     requires out { IsOut book.old plan }
     requires none { book.old.plan ≡ [] }
     requires no_line { plan.next ≡ None }
-    ensures book { book.new ≡ finished book.old }
+    ensures book { book.new ≡ after_end book.old }
     ensures number { result.number ≡ length book.old.history }
     ensures missed { result.missed ≡ newest_missed book.old.history }
     ensures shut { result.shut ≡ is_actor_shut book.old.history }
@@ -144,10 +143,10 @@ impl<L: Naming> Play<L> {
     ghost use Rattle.interleave.specs.declared.event.Event.TheVariants as event;
     ghost use Rattle.interleave.specs.State.{IsSound, ForEach, empty_state, inbox_at, in_hand, unread, taken_of};
     ghost use Rattle.interleave.specs.State.{queue_of, planned_for, is_known, is_worker, job_of, holds, is_home};
-    ghost use Rattle.interleave.specs.Refusals.{own_refusal, no_session, no_worker, locked, not_holding, has_job};
+    ghost use Rattle.interleave.specs.Refusals.{own_refusal, no_session, no_worker, not_free, not_holding, has_job};
     ghost use Rattle.interleave.specs.Refusals.{no_job, in_flight, nothing_left, puts_left, holds_lock};
     ghost use Rattle.interleave.specs.Steps.{IsWellShaped, IsStep, IsDone};
-    ghost use Rattle.interleave.specs.Runs.{IsRun, sent, took};
+    ghost use Rattle.interleave.specs.Runs.{IsRun, sent_in, taken_in};
     ghost use Rattle.interleave.specs.Order.{IsPrefix, IsRising};
     ghost use Rattle.interleave.specs.Laws.{IsAnsweredOnce, IsBatchClosed, IsLabelledFirst, IsLoneUnbatched};
     ghost use Rattle.interleave.specs.Laws.{IsQuietAfterTheClose};
@@ -155,7 +154,7 @@ impl<L: Naming> Play<L> {
     ghost use Rattle.clean_records.specs.Clean.{AreNamed};
 
     /// A play with no sessions. Names are hashed by the keys of a state, where one is given.
-    fn made(
+    fn new_in(
         alloc: Global,
         register: Register<()>,
         settings: Settings,
@@ -213,7 +212,7 @@ impl<L: Naming> Play<L> {
         ensures memory { IfErr result
             (λ e. e ≡ PlayRefusal.Memory → IsWellSet settings limit workers sendq) }
     {
-        Play::made(alloc, register, settings, limit, workers, sendq, None)
+        Play::new_in(alloc, register, settings, limit, workers, sendq, None)
     }
 
     /// A play with no sessions, as `new` makes one. Names are hashed by the keys of a state.
@@ -235,7 +234,7 @@ impl<L: Naming> Play<L> {
         ensures memory { IfErr result
             (λ e. e ≡ PlayRefusal.Memory → IsWellSet settings limit workers sendq) }
     {
-        Play::made(
+        Play::new_in(
             alloc,
             register,
             settings,
@@ -262,7 +261,7 @@ impl<L: Naming> Play<L> {
         self.book.ledger().settings().accounts.are_named();
     }
 
-    /// The session of the lowest number that isn't shut and is quiet for too long at a moment, if there is one.
+    /// The session of the lowest number that isn't shut and is idle for too long at a moment, if there is one.
     pub fn late(&self, moment: Moment) -> Option<SessionId>
         ensures { result ≡ late self.now.book.history moment }
     {
@@ -348,7 +347,7 @@ impl<L: Naming> Play<L> {
 
     fn refuses_begin(&self, worker: WorkerId) -> Option<StepRefusal>
         ensures { result
-            ≡ no_worker self.now worker (locked self.now (no_job self.now worker None)) }
+            ≡ no_worker self.now worker (not_free self.now (no_job self.now worker None)) }
     {
         if !self.is_worker(worker) {
             return Some(StepRefusal::NoWorker);
@@ -411,7 +410,7 @@ impl<L: Naming> Play<L> {
     }
 
     fn refuses_hang(&self, worker: WorkerId) -> Option<StepRefusal>
-        ensures { result ≡ no_worker self.now worker (locked self.now None) }
+        ensures { result ≡ no_worker self.now worker (not_free self.now None) }
     {
         if !self.is_worker(worker) {
             return Some(StepRefusal::NoWorker);
@@ -425,7 +424,7 @@ impl<L: Naming> Play<L> {
     /// Why a worker without a line can't take the lock.
     fn refuses_lock(&self, worker: WorkerId) -> Option<StepRefusal>
         ensures { result
-            ≡ no_worker self.now worker (locked self.now (has_job self.now worker None)) }
+            ≡ no_worker self.now worker (not_free self.now (has_job self.now worker None)) }
     {
         if !self.is_worker(worker) {
             return Some(StepRefusal::NoWorker);
@@ -441,7 +440,7 @@ impl<L: Naming> Play<L> {
 
     fn refuses_reap(&self, session: SessionId) -> Option<StepRefusal>
         ensures { result
-            ≡ no_session self.now session (locked self.now (in_flight self.now session None)) }
+            ≡ no_session self.now session (not_free self.now (in_flight self.now session None)) }
     {
         if !self.is_known(session) {
             return Some(StepRefusal::NoSession);
@@ -745,19 +744,19 @@ impl<L: Naming> Play<L> {
         ensures sound { IsSound self.new }
         ensures legal { IsLegal self.new.book.settings self.new.book.history }
         ensures taken_is_owed { IfOk result (λ notes. ForEach self.new
-            (λ t. (taken_of self.old t ++ took t events.now notes.items) ++ queue_of self.new t
+            (λ t. (taken_of self.old t ++ taken_in t events.now notes.items) ++ queue_of self.new t
             ++ planned_for self.new t ≡ owed self.new.book.settings self.new.book.history t)) }
         ensures accepted_is_sent { IfOk result (λ notes. ForEach self.new
             (λ t. accepted self.new.book.history t ++ in_hand self.new t ++ unread self.new t
-            ≡ lines ((inbox_at self.old t).fed ++ sent t events.now notes.items))) }
+            ≡ lines ((inbox_at self.old t).fed ++ sent_in t events.now notes.items))) }
         ensures taken_is_prefix { IfOk result (λ notes. ForEach self.new
-            (λ t. IsPrefix (taken_of self.old t ++ took t events.now notes.items)
+            (λ t. IsPrefix (taken_of self.old t ++ taken_in t events.now notes.items)
             (owed self.new.book.settings self.new.book.history t))) }
         ensures accepted_is_prefix { IfOk result
             (λ notes. ForEach self.new (λ t. IsPrefix (accepted self.new.book.history t)
-            (lines ((inbox_at self.old t).fed ++ sent t events.now notes.items)))) }
+            (lines ((inbox_at self.old t).fed ++ sent_in t events.now notes.items)))) }
         ensures in_order { IfOk result (λ notes. ForEach self.new
-            (λ t. IsRising (taken_of self.old t ++ took t events.now notes.items))) }
+            (λ t. IsRising (taken_of self.old t ++ taken_in t events.now notes.items))) }
         ensures error_at_most { IsQuietAfterTheClose self.new.book.settings self.new.book.history }
         ensures answered_once { IsAnsweredOnce self.new.book.settings self.new.book.history }
         ensures labelled_first { IsLabelledFirst self.new.book.settings self.new.book.history }

@@ -5,8 +5,8 @@
 ghost use Rattle.std.specs.Prelude.{◌≡◌, ◌+◌, [], Some, length, IsSome, IfOk, IfErr, OnOk, OnErr};
 ghost use Rattle.chronicle.specs.declared.record.Kind.TheVariants as kind;
 ghost use Rattle.chronicle.specs.History.{shut};
-ghost use Rattle.ledger.specs.Ledger.{IsOut, MayBegin, MayReap, IsLineRefusal, IsReapRefusal, begun};
-ghost use Rattle.ledger.specs.Ledger.{finished, newest_missed, outbox_at, reaped};
+ghost use Rattle.book.specs.Ledger.{IsOut, MayBegin, MayReap, IsLineRefusal, IsReapRefusal, after_begin};
+ghost use Rattle.book.specs.Ledger.{after_end, newest_missed, outbox_at, after_reap};
 ghost use Rattle.book.specs.Reaping.{turn_of};
 
 use book::{Baton, Book, Done, LineRefusal, Naming, Plan, ReapRefusal, Ring, Stub};
@@ -24,7 +24,7 @@ pub(crate) struct Tokens<L: Naming> {
 
 impl<L: Naming> Model for Tokens<L> {
     ghost use Rattle.std.specs.Prelude.{◌≡◌, IsSome};
-    ghost use Rattle.ledger.specs.Ledger.{Turn};
+    ghost use Rattle.book.specs.Ledger.{Turn};
     ghost use Rattle.book.specs.Reaping.{turn_of};
 
     ghost Value = { Turn };
@@ -59,7 +59,7 @@ impl<L: Naming> Tokens<L> {
         moment: Moment,
     ) -> Result<Plan, LineRefusal>
         ensures ok { OnOk result (book.new
-            ≡ begun book.old (kind.Said self.now.session self.now.next piece.now) moment) }
+            ≡ after_begin book.old (kind.Said self.now.session self.now.next piece.now) moment) }
         ensures out { IfOk result (λ p. IsOut book.new p) }
         ensures line { IfOk result
             (λ p. (p.session ≡ self.now.session) × (p.next ≡ Some (self.now.next + 1))) }
@@ -75,7 +75,7 @@ impl<L: Naming> Tokens<L> {
         requires out { IsOut book.old plan }
         requires none { book.old.plan ≡ [] }
         requires line { (plan.session ≡ self.old.session) × (plan.next ≡ Some (self.old.next + 1)) }
-        ensures book { book.new ≡ finished book.old }
+        ensures book { book.new ≡ after_end book.old }
         ensures turn { self.new ≡ record { session = self.old.session; next = self.old.next + 1 } }
         ensures number { result.number ≡ length book.old.history }
         ensures missed { result.missed ≡ newest_missed book.old.history }
@@ -86,7 +86,7 @@ impl<L: Naming> Tokens<L> {
 
     /// Gives the session up, and answers how many items are left in its outbox. A refusal gives the tokens back.
     pub(crate) fn reap(self, book: &mut Book<L, Ring>) -> Result<u64, (ReapRefusal, Tokens<L>)>
-        ensures ok { OnOk result (book.new ≡ reaped book.old self.session) }
+        ensures ok { OnOk result (book.new ≡ after_reap book.old self.session) }
         ensures left { IfOk result
             (λ n. n ≡ length (outbox_at book.old.outboxes self.session).queue) }
         ensures may { OnOk result (MayReap book.old self.session) }

@@ -10,37 +10,37 @@ use Rattle.registration.specs.declared.caps.Caps.{Caps}
 use Rattle.registration.specs.Caps.{is_on}
 use Rattle.labels_batches.specs.declared.answers.AnswerTag.{AnswerTag}
 use Rattle.labels_batches.specs.declared.answers.Tagged.{Tagged}
-use Rattle.labels_batches.specs.Answers.{answered, tagged_as}
-use Rattle.labels_batches.specs.Headed.{headed, is_bare, label_mark}
-use Rattle.labels_batches.specs.Rendered.{answered_tag, rendered, spelled_line, timed}
+use Rattle.labels_batches.specs.Answers.{whole_answer, tagged_as}
+use Rattle.labels_batches.specs.Headed.{with_head, is_bare, label_mark}
+use Rattle.labels_batches.specs.Rendered.{answered_tag, text_as, spelled_line, with_time}
 use Rattle.labels_batches.specs.Spellings.{spelled_with}
 use Rattle.labels_batches.proofs.Alike.{as_taken}
 
 -- lines after the tags that all of them have
 pub headed_rendered : (caps : Caps) (m : ℤ) (tag : Option AnswerTag) (ls : List Out)
-    → flat_map (headed caps (timed caps m (answered_tag tag))) ls ≡ rendered caps m (map (tagged_as tag) ls)
+    → flat_map (with_head caps (with_time caps m (answered_tag tag))) ls ≡ text_as caps m (map (tagged_as tag) ls)
 unfolding spelled_line
 headed_rendered caps m tag [] = refl
-headed_rendered caps m tag (l ∷ ls) = ap (λ x. headed caps (timed caps m (answered_tag tag)) l ++ x)
+headed_rendered caps m tag (l ∷ ls) = ap (λ x. with_head caps (with_time caps m (answered_tag tag)) l ++ x)
     (headed_rendered caps m tag ls)
 
 pub rendered_lines : (caps : Caps) (m : ℤ) (tag : Option AnswerTag) (ls : List Out) (head : List ℕ) → head
-    ≡ timed caps m (answered_tag tag) → flat_map (headed caps head) ls ≡ rendered caps m (map (tagged_as tag) ls)
-rendered_lines caps m tag ls head e = ap (λ h. flat_map (headed caps h) ls) e ∙ headed_rendered caps m tag ls
+    ≡ with_time caps m (answered_tag tag) → flat_map (with_head caps head) ls ≡ text_as caps m (map (tagged_as tag) ls)
+rendered_lines caps m tag ls head e = ap (λ h. flat_map (with_head caps h) ls) e ∙ headed_rendered caps m tag ls
 
 -- some lines, and then others
-pub rendered_both : (caps : Caps) (m : ℤ) (xs ys : List Tagged) → rendered caps m (xs ++ ys)
-    ≡ rendered caps m xs ++ rendered caps m ys
+pub rendered_both : (caps : Caps) (m : ℤ) (xs ys : List Tagged) → text_as caps m (xs ++ ys)
+    ≡ text_as caps m xs ++ text_as caps m ys
 rendered_both caps m xs ys = flat_map-append (spelled_line caps m) xs ys
 
 -- a batch: what opens it, its lines, and what ends it
 pub rendered_batch : (caps : Caps) (m : ℤ) (before : List ℕ) (x y : Tagged) (ls : List Tagged) →
-    ((before ++ rendered caps m (x ∷ [])) ++ rendered caps m ls) ++ rendered caps m (y ∷ [])
-    ≡ before ++ rendered caps m (x ∷ ls ++ y ∷ [])
+    ((before ++ text_as caps m (x ∷ [])) ++ text_as caps m ls) ++ text_as caps m (y ∷ [])
+    ≡ before ++ text_as caps m (x ∷ ls ++ y ∷ [])
 rendered_batch caps m before x y ls =
-    append_assoc (before ++ rendered caps m (x ∷ [])) (rendered caps m ls) (rendered caps m (y ∷ []))
-    ∙ append_assoc before (rendered caps m (x ∷ [])) (rendered caps m ls ++ rendered caps m (y ∷ []))
-    ∙ ap (λ t. before ++ (rendered caps m (x ∷ []) ++ t)) (sym (rendered_both caps m ls (y ∷ [])))
+    append_assoc (before ++ text_as caps m (x ∷ [])) (text_as caps m ls) (text_as caps m (y ∷ []))
+    ∙ append_assoc before (text_as caps m (x ∷ [])) (text_as caps m ls ++ text_as caps m (y ∷ []))
+    ∙ ap (λ t. before ++ (text_as caps m (x ∷ []) ++ t)) (sym (rendered_both caps m ls (y ∷ [])))
     ∙ ap (λ t. before ++ t) (sym (rendered_both caps m (x ∷ []) (ls ++ y ∷ [])))
 
 -- a line without a label that goes out without tags
@@ -56,6 +56,6 @@ bare_spelled caps m l e = bare_with (is_on caps ServerTime)
 
 -- an answer of one line
 pub sole_rendered : (caps : Caps) (m : ℤ) (server : List ℕ) (label : Option (List ℕ)) (n : ℕ) (l : Out)
-    → spelled_line caps m (tagged_as (label_mark label) l) ≡ rendered caps m (answered server label n (l ∷ []) [])
+    → spelled_line caps m (tagged_as (label_mark label) l) ≡ text_as caps m (whole_answer server label n (l ∷ []) [])
 sole_rendered caps m server None n l = sym (append-nil _)
 sole_rendered caps m server (Some label) n l = sym (append-nil _)

@@ -6,7 +6,7 @@ use Rattle.std.specs.Str.{bytes_eq}
 use Rattle.numerics.specs.declared.outgoing.Out.{Out}
 use Rattle.labels_batches.specs.declared.answers.AnswerTag.TheVariants.{Label, Batch}
 use Rattle.labels_batches.specs.declared.answers.Tagged.{Tagged}
-use Rattle.labels_batches.specs.Answers.{ack, batch_ends, batch_opens, batched, tagged_as}
+use Rattle.labels_batches.specs.Answers.{ack, batch_ends, batch_opens, as_batch, tagged_as}
 use Rattle.labels_batches.specs.Whole.{HasLabelFirst, IsClosed, LabelFirst, LoneOpensNone, SeveralAreClosed, labels}
 
 abbrev bare : List Out → List Tagged
@@ -28,7 +28,7 @@ first-line : (label : List ℕ) (l : Out) (copies : List Out)
 first-line label l copies = record { first = l; later = bare copies; lines = refl; no_other = none-bare copies }
 
 first-batch : (server label : List ℕ) (n : ℕ) (ls copies : List Out)
-    → HasLabelFirst label (batched server label n ls ++ bare copies)
+    → HasLabelFirst label (as_batch server label n ls ++ bare copies)
 first-batch server label n ls copies = record {
   first = batch_opens server n;
   later = (map (tagged_as (Some (Batch n))) ls ++ tagged_as None (batch_ends server n) ∷ []) ++ bare copies;
@@ -61,7 +61,7 @@ lone-opens-none server label n (l ∷ []) copies few plain =
 lone-opens-none server label n (l ∷ k ∷ ls) copies few plain = absurd (omega arith)
 
 closed : (server label : List ℕ) (n : ℕ) (ls copies : List Out) → 2 ≤ length ls
-    → IsClosed server label n ls copies (batched server label n ls ++ bare copies)
+    → IsClosed server label n ls copies (as_batch server label n ls ++ bare copies)
 closed server label n ls copies two = record { several = two; lines = refl; opens = refl; ends = refl }
 
 pub several-closed : SeveralAreClosed

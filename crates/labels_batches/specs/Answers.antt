@@ -23,22 +23,22 @@ abbrev pub batch_ends : List ℕ → ℕ → Out
 batch_ends server n = line server (codes "BATCH") ((codes "-" ++ decimal n) ∷ []) false
 
 -- the line that opens it has the label, and those between the reference
-abbrev pub batched : List ℕ → List ℕ → ℕ → List Out → List Tagged
-batched server label n ls =
+abbrev pub as_batch : List ℕ → List ℕ → ℕ → List Out → List Tagged
+as_batch server label n ls =
     tagged_as (Some (Label label)) (batch_opens server n) ∷ map (tagged_as (Some (Batch n))) ls
     ++ tagged_as None (batch_ends server n) ∷ []
 
 -- no line is acknowledged, one has the label, several stand in a batch
-abbrev pub labelled : List ℕ → List ℕ → ℕ → List Out → List Tagged
-labelled server label n ls =
+abbrev pub with_label : List ℕ → List ℕ → ℕ → List Out → List Tagged
+with_label server label n ls =
     if length ls == 0 then tagged_as (Some (Label label)) (ack server) ∷ []
     else if length ls == 1 then map (tagged_as (Some (Label label))) ls
-    else batched server label n ls
+    else as_batch server label n ls
 
-abbrev pub wrapped : List ℕ → Option (List ℕ) → ℕ → List Out → List Tagged
-wrapped server None n ls = map (tagged_as None) ls
-wrapped server (Some label) n ls = labelled server label n ls
+abbrev pub wrap_of : List ℕ → Option (List ℕ) → ℕ → List Out → List Tagged
+wrap_of server None n ls = map (tagged_as None) ls
+wrap_of server (Some label) n ls = with_label server label n ls
 
 -- the answer, and then what the session sent to itself
-abbrev pub answered : List ℕ → Option (List ℕ) → ℕ → List Out → List Out → List Tagged
-answered server label n reply copies = wrapped server label n reply ++ map (tagged_as None) copies
+abbrev pub whole_answer : List ℕ → Option (List ℕ) → ℕ → List Out → List Out → List Tagged
+whole_answer server label n reply copies = wrap_of server label n reply ++ map (tagged_as None) copies

@@ -9,11 +9,11 @@ use Rattle.labels_batches.specs.declared.answers.AnswerTag.{AnswerTag}
 use Rattle.labels_batches.specs.declared.answers.AnswerTag.TheVariants.{Label, Batch}
 use Rattle.labels_batches.specs.declared.answers.Tagged.{Tagged}
 use Rattle.labels_batches.specs.Answers.{batch_ends, batch_opens, tagged_as}
-use Rattle.labels_batches.specs.Rendered.{ended, relayed_tags}
+use Rattle.labels_batches.specs.Rendered.{with_end, relayed_tags}
 
 -- a line after these tags and its client's
-abbrev pub headed : Caps → List ℕ → Out → List ℕ
-headed caps head l = ended (relayed_tags caps l.tags head) ++ octets l
+abbrev pub with_head : Caps → List ℕ → Out → List ℕ
+with_head caps head l = with_end (relayed_tags caps l.tags head) ++ octets l
 
 -- a batch whose first line has this tag
 abbrev pub batched_as : List ℕ → Option AnswerTag → ℕ → List Out → List Tagged

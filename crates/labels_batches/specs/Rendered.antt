@@ -3,7 +3,7 @@
 use Rattle.std.specs.Prelude.{ℕ, ◌==◌, ℤ, ◌&&◌, not, List, [], ◌++◌, length, codes}
 use Rattle.std.specs.Prelude.{decimal, Option, Some, None, if◌then◌else◌}
 use Rattle.std.specs.List.{flat_map}
-use Rattle.message_tags.specs.Value.{escaped}
+use Rattle.message_tags.specs.Value.{escapes_of}
 use Rattle.numerics.specs.CivilTime.{time_text}
 use Rattle.numerics.specs.Outgoing.{octets}
 use Rattle.registration.specs.declared.caps.Cap.TheVariants.{MessageTags, ServerTime}
@@ -18,7 +18,7 @@ abbrev pub with_tag : List ℕ → List ℕ → List ℕ
 with_tag block tag = block ++ ((if length block == 0 then codes "@" else codes ";") ++ tag)
 
 abbrev pub tag_text : AnswerTag → List ℕ
-tag_text (Label label) = codes "label=" ++ escaped label
+tag_text (Label label) = codes "label=" ++ escapes_of label
 tag_text (Batch n) = codes "batch=" ++ decimal n
 
 -- first the label, or the batch
@@ -27,22 +27,22 @@ answered_tag None = []
 answered_tag (Some tag) = with_tag [] (tag_text tag)
 
 -- then the moment of the record, for who takes it
-abbrev pub timed : Caps → ℤ → List ℕ → List ℕ
-timed caps m block = if is_on caps ServerTime then with_tag block (codes "time=" ++ time_text m) else block
+abbrev pub with_time : Caps → ℤ → List ℕ → List ℕ
+with_time caps m block = if is_on caps ServerTime then with_tag block (codes "time=" ++ time_text m) else block
 
 -- then the tags of another client, for who takes them
 abbrev pub relayed_tags : Caps → List ℕ → List ℕ → List ℕ
 relayed_tags caps tags block = if is_on caps MessageTags && not (length tags == 0) then with_tag block tags else block
 
 abbrev pub tag_block : Caps → ℤ → Tagged → List ℕ
-tag_block caps m t = relayed_tags caps t.line.tags (timed caps m (answered_tag t.tag))
+tag_block caps m t = relayed_tags caps t.line.tags (with_time caps m (answered_tag t.tag))
 
 -- a space ends them
-abbrev pub ended : List ℕ → List ℕ
-ended block = if length block == 0 then block else block ++ codes " "
+abbrev pub with_end : List ℕ → List ℕ
+with_end block = if length block == 0 then block else block ++ codes " "
 
 unfoldable pub spelled_line : Caps → ℤ → Tagged → List ℕ
-spelled_line caps m t = ended (tag_block caps m t) ++ octets t.line
+spelled_line caps m t = with_end (tag_block caps m t) ++ octets t.line
 
-abbrev pub rendered : Caps → ℤ → List Tagged → List ℕ
-rendered caps m ts = flat_map (spelled_line caps m) ts
+abbrev pub text_as : Caps → ℤ → List Tagged → List ℕ
+text_as caps m ts = flat_map (spelled_line caps m) ts

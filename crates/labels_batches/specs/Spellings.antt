@@ -6,7 +6,7 @@ use Rattle.numerics.specs.CivilTime.{time_text}
 use Rattle.numerics.specs.Outgoing.{octets}
 use Rattle.registration.specs.declared.caps.Caps.{Caps}
 use Rattle.labels_batches.specs.Answers.{tagged_as}
-use Rattle.labels_batches.specs.Rendered.{ended, spelled_line, with_tag}
+use Rattle.labels_batches.specs.Rendered.{with_end, spelled_line, with_tag}
 
 abbrev pub spelled_for : Caps → ℤ → Out → List ℕ
 spelled_for caps m l = spelled_line caps m (tagged_as None l)
@@ -20,7 +20,7 @@ pub record Spelled : Type 0 where
 abbrev pub spelled_with : Bool → Bool → ℤ → Out → List ℕ
 spelled_with time tags m l =
     let timed = cond time (with_tag [] (codes "time=" ++ time_text m)) [] in
-    ended (cond tags (with_tag timed l.tags) timed) ++ octets l
+    with_end (cond tags (with_tag timed l.tags) timed) ++ octets l
 
 -- the spellings that are kept are those of the line
 pub record AreOf (l : Out) (m : ℤ) (tags plain : List ℕ) (timed tagged both : Option (List ℕ)) : Type 0 where

@@ -6,7 +6,7 @@ use Rattle.numerics.specs.declared.outgoing.Out.{Out}
 use Rattle.labels_batches.specs.declared.answers.AnswerTag.{AnswerTag}
 use Rattle.labels_batches.specs.declared.answers.AnswerTag.TheVariants.{Label}
 use Rattle.labels_batches.specs.declared.answers.Tagged.{Tagged}
-use Rattle.labels_batches.specs.Answers.{answered, batch_ends, batch_opens, batched, tagged_as}
+use Rattle.labels_batches.specs.Answers.{whole_answer, batch_ends, batch_opens, as_batch, tagged_as}
 
 abbrev pub is_label_tag : Option AnswerTag → Bool
 is_label_tag (Some (Label label)) = true
@@ -33,7 +33,7 @@ pub record IsLone (label : List ℕ) (copies : List Out) (ls : List Tagged) : Ty
 -- ends it; what the session sent to itself follows. The reference is the record's number n at both ends
 pub record IsClosed (server label : List ℕ) (n : ℕ) (between copies : List Out) (ls : List Tagged) : Type 0 where
   pub several : 2 ≤ length between
-  pub lines : ls ≡ batched server label n between ++ map (tagged_as None) copies
+  pub lines : ls ≡ as_batch server label n between ++ map (tagged_as None) copies
   pub opens : slice_get (batch_opens server n).params 0 ≡ Some (codes "+" ++ decimal n)
   pub ends : slice_get (batch_ends server n).params 0 ≡ Some (codes "-" ++ decimal n)
 
@@ -45,14 +45,14 @@ OpensNoBatch ls = All (λ l. l.command ≢ codes "BATCH") ls
 
 abbrev pub LabelFirst : Type 0
 LabelFirst = (server label : List ℕ) (n : ℕ) (reply copies : List Out)
-    → HasLabelFirst label (answered server (Some label) n reply copies)
+    → HasLabelFirst label (whole_answer server (Some label) n reply copies)
 
 -- of one line at most, which opens no batch by itself
 abbrev pub LoneOpensNone : Type 0
 LoneOpensNone = (server label : List ℕ) (n : ℕ) (reply copies : List Out) → length reply ≤ 1 → OpensNoBatch reply
-    → IsLone label copies (answered server (Some label) n reply copies)
+    → IsLone label copies (whole_answer server (Some label) n reply copies)
 
 -- of several lines
 abbrev pub SeveralAreClosed : Type 0
 SeveralAreClosed = (server label : List ℕ) (n : ℕ) (reply copies : List Out) → 2 ≤ length reply
-    → IsClosed server label n reply copies (answered server (Some label) n reply copies)
+    → IsClosed server label n reply copies (whole_answer server (Some label) n reply copies)

@@ -1,8 +1,8 @@
 //! The answer to a line as its session takes it (IRCv3 labeled-response; IRCv3 batch).
 ghost use Rattle.std.specs.Prelude.{◌≡◌, ◌∷◌, ◌++◌, [], map, option_copied, IfOk, OnOk};
 ghost use Rattle.labels_batches.specs.declared.answers.AnswerTag.TheVariants.{Label};
-ghost use Rattle.labels_batches.specs.Answers.{ack, answered, batch_ends, batch_opens, batched};
-ghost use Rattle.labels_batches.specs.Answers.{labelled, tagged_as, wrapped};
+ghost use Rattle.labels_batches.specs.Answers.{ack, whole_answer, batch_ends, batch_opens, as_batch};
+ghost use Rattle.labels_batches.specs.Answers.{with_label, tagged_as, wrap_of};
 
 use chronicle::RecordNumber;
 use line_grammar::Octets;
@@ -132,7 +132,7 @@ fn push_batch(
     lines: Vec<Line>,
 ) -> Result<(), AllocError>
     ensures { OnOk result
-        (tagged.new.items ≡ tagged.old.items ++ batched server.now label.now number lines.items) }
+        (tagged.new.items ≡ tagged.old.items ++ as_batch server.now label.now number lines.items) }
 {
     push_start(alloc, tagged, server, label, number)?;
     push_all(tagged, &Some(AnswerTag::Batch(number)), lines)?;
@@ -149,7 +149,8 @@ fn push_answer(
     lines: Vec<Line>,
 ) -> Result<(), AllocError>
     ensures { OnOk result
-        (tagged.new.items ≡ tagged.old.items ++ labelled server.now label.now number lines.items) }
+        (tagged.new.items ≡ tagged.old.items
+        ++ with_label server.now label.now number lines.items) }
 {
     match lines.len() {
         0 => push_labelled(tagged, label, ack(alloc, server)?),
@@ -168,7 +169,7 @@ fn push_reply(
     reply: Vec<Line>,
 ) -> Result<(), AllocError>
     ensures { OnOk result (tagged.new.items
-        ≡ tagged.old.items ++ wrapped server.now (option_copied label.entry) number reply.items) }
+        ≡ tagged.old.items ++ wrap_of server.now (option_copied label.entry) number reply.items) }
 {
     match label {
         Some(label) => push_answer(alloc, tagged, server, label, number, reply),
@@ -189,7 +190,7 @@ pub fn wrap(
     copies: Vec<Line>,
 ) -> Result<Vec<Tagged>, AllocError>
     ensures { IfOk result (λ v. v.items
-        ≡ answered server.now (option_copied label.entry) number reply.items copies.items) }
+        ≡ whole_answer server.now (option_copied label.entry) number reply.items copies.items) }
 {
     let mut tagged = Vec::new(alloc);
     push_reply(alloc, &mut tagged, server, label, number, reply)?;

@@ -1,9 +1,9 @@
 //! Lines with their tags, as a receiver takes them (IRCv3 message-tags; IRCv3 server-time).
 ghost use Rattle.std.specs.Prelude.{◌≡◌, ◌++◌, codes, decimal, IfOk, OnOk};
-ghost use Rattle.message_tags.specs.Value.{escaped};
+ghost use Rattle.message_tags.specs.Value.{escapes_of};
 ghost use Rattle.numerics.specs.CivilTime.{time_text};
-ghost use Rattle.labels_batches.specs.Rendered.{answered_tag, ended, relayed_tags, rendered};
-ghost use Rattle.labels_batches.specs.Rendered.{spelled_line, tag_block, timed, with_tag};
+ghost use Rattle.labels_batches.specs.Rendered.{answered_tag, with_end, relayed_tags, text_as};
+ghost use Rattle.labels_batches.specs.Rendered.{spelled_line, tag_block, with_time, with_tag};
 
 use crate::{AnswerTag, Tagged};
 use chronicle::{RecordMoment, RecordNumber};
@@ -27,7 +27,7 @@ pub(crate) const MORE_TAGS: usize = 32;
 
 /// The tag of a label, with room for so many octets more.
 fn label_tag(alloc: Global, label: &[u8], more: usize) -> Result<Octets, AllocError>
-    ensures { IfOk result (λ t. t ≡ codes "@label=" ++ escaped label.now) }
+    ensures { IfOk result (λ t. t ≡ codes "@label=" ++ escapes_of label.now) }
 {
     let room = label.len().saturating_mul(2).saturating_add(MORE_TAGS);
     let mut tag = Vec::with_capacity(alloc, room.saturating_add(more))?;
@@ -41,7 +41,7 @@ fn batch_tag(alloc: Global, number: RecordNumber) -> Result<Octets, AllocError>
     ensures { IfOk result (λ t. t ≡ codes "@batch=" ++ decimal number) }
 {
     let number = number.number();
-    Octets::copied(alloc, format!(in alloc; "@batch={number}")?.as_bytes())
+    Octets::copy_of(alloc, format!(in alloc; "@batch={number}")?.as_bytes())
 }
 
 /// The tags of an answer, with room for so many octets more.
@@ -91,7 +91,7 @@ fn push_time(
     caps: Caps,
     moment: RecordMoment,
 ) -> Result<(), AllocError>
-    ensures { OnOk result (block.new ≡ timed caps moment block.old) }
+    ensures { OnOk result (block.new ≡ with_time caps moment block.old) }
 {
     if !caps.contains(Cap::ServerTime) {
         return Ok(());
@@ -117,7 +117,7 @@ pub(crate) fn head_of(
     moment: RecordMoment,
     more: usize,
 ) -> Result<Octets, AllocError>
-    ensures { IfOk result (λ b. b ≡ timed caps moment (answered_tag tag.now)) }
+    ensures { IfOk result (λ b. b ≡ with_time caps moment (answered_tag tag.now)) }
 {
     let mut block = answered_tag(alloc, tag, more)?;
     push_time(alloc, &mut block, caps, moment)?;
@@ -140,7 +140,7 @@ fn tag_block(
 
 /// Ends tags.
 pub(crate) fn end(block: &mut Octets) -> Result<(), AllocError>
-    ensures { OnOk result (block.new ≡ ended block.old) }
+    ensures { OnOk result (block.new ≡ with_end block.old) }
 {
     if block.is_empty() {
         return Ok(());
@@ -174,7 +174,7 @@ pub fn render(
     caps: Caps,
     moment: RecordMoment,
 ) -> Result<Octets, AllocError>
-    ensures { IfOk result (λ t. t ≡ rendered caps moment lines.now) }
+    ensures { IfOk result (λ t. t ≡ text_as caps moment lines.now) }
 {
     let mut text = Octets::from_vec(Vec::new(alloc));
     for line in lines {

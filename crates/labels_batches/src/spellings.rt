@@ -8,10 +8,10 @@ ghost use Rattle.labels_batches.specs.Spellings.{spelled_for, spelled_with};
 use crate::Text;
 use crate::rendering::{end, push_moment, push_tag};
 use chronicle::RecordMoment;
-use ghosts::Snapshot;
 use line_grammar::Octets;
 use numerics::Line;
 use registration::{Cap, Caps};
+use snapshots::Snapshot;
 use std::alloc::{AllocError, Global};
 use std::marker::Model;
 
@@ -35,7 +35,7 @@ impl Untagged {
     }
 
     /// The line with its moment or without, and with its tags or without.
-    fn spelled(&self, time: bool, tags: bool) -> Result<Octets, AllocError>
+    fn spell(&self, time: bool, tags: bool) -> Result<Octets, AllocError>
         requires octets { self.now.plain ≡ octets self.now.line.value }
         requires tags { self.now.tags ≡ self.now.line.value.tags }
         ensures { IfOk result
@@ -73,7 +73,7 @@ fn kept_or_made(
     if let Some(spelling) = kept {
         return spelling.clone();
     }
-    let spelling = Text::new(line.alloc, line.spelled(time, tags)?)?;
+    let spelling = Text::new(line.alloc, line.spell(time, tags)?)?;
     let text = spelling.clone()?;
     *kept = Some(spelling);
     Ok(text)

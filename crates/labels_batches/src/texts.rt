@@ -1,9 +1,9 @@
 //! The text of an answer, spelled from its lines.
 ghost use Rattle.std.specs.Prelude.{◌≡◌, ◌∷◌, ◌++◌, [], map, Some, None, IfOk, IfErr, OnOk, true};
 ghost use Rattle.std.specs.List.{flat_map};
-ghost use Rattle.labels_batches.specs.Answers.{answered, labelled, tagged_as, wrapped};
-ghost use Rattle.labels_batches.specs.Headed.{batched_as, headed, is_bare, label_mark};
-ghost use Rattle.labels_batches.specs.Rendered.{ended, relayed_tags, rendered, spelled_line};
+ghost use Rattle.labels_batches.specs.Answers.{whole_answer, with_label, tagged_as, wrap_of};
+ghost use Rattle.labels_batches.specs.Headed.{batched_as, with_head, is_bare, label_mark};
+ghost use Rattle.labels_batches.specs.Rendered.{with_end, relayed_tags, text_as, spelled_line};
 
 use crate::AnswerTag;
 use crate::answers::{ack, batch_ends, batch_opens};
@@ -25,7 +25,7 @@ pub struct Receiver {
 /// Adds the tags of another client after those that a line has, and the space that ends them.
 fn push_tags(text: &mut Vec<u8>, head: &[u8], caps: Caps, tags: &[u8]) -> Result<(), AllocError>
     ensures { OnOk result
-        (text.new.items ≡ text.old.items ++ ended (relayed_tags caps tags.now head.now)) }
+        (text.new.items ≡ text.old.items ++ with_end (relayed_tags caps tags.now head.now)) }
 {
     if caps.contains(Cap::MessageTags) && !tags.is_empty() {
         text.extend_from_slice(head)?;
@@ -42,7 +42,7 @@ fn push_tags(text: &mut Vec<u8>, head: &[u8], caps: Caps, tags: &[u8]) -> Result
 
 /// Adds a line after tags.
 fn push_headed(text: &mut Vec<u8>, head: &[u8], caps: Caps, line: &Line) -> Result<(), AllocError>
-    ensures { OnOk result (text.new.items ≡ text.old.items ++ headed caps head.now line.now) }
+    ensures { OnOk result (text.new.items ≡ text.old.items ++ with_head caps head.now line.now) }
 {
     push_tags(text, head, caps, line.tags())?;
     text.extend_from_slice(line.octets())
@@ -56,7 +56,7 @@ fn push_all_headed(
     lines: &[Line],
 ) -> Result<(), AllocError>
     ensures { OnOk result
-        (text.new.items ≡ text.old.items ++ flat_map (headed caps head.now) lines.now) }
+        (text.new.items ≡ text.old.items ++ flat_map (with_head caps head.now) lines.now) }
 {
     for line in lines {
         push_headed(text, head, caps, line)?;
@@ -87,7 +87,7 @@ fn push_lines(
     lines: &[Line],
     to: &Receiver,
 ) -> Result<(), AllocError>
-    ensures { OnOk result (text.new.items ≡ text.old.items ++ rendered to.now.caps to.now.moment
+    ensures { OnOk result (text.new.items ≡ text.old.items ++ text_as to.now.caps to.now.moment
         (map (tagged_as tag.now) lines.now)) }
 {
     if lines.is_empty() {
@@ -106,7 +106,7 @@ fn push_untagged(
     to: &Receiver,
 ) -> Result<(), AllocError>
     ensures { OnOk result (text.new.items
-        ≡ text.old.items ++ rendered to.now.caps to.now.moment (map (tagged_as None) lines.now)) }
+        ≡ text.old.items ++ text_as to.now.caps to.now.moment (map (tagged_as None) lines.now)) }
 {
     push_lines(alloc, text, &None, lines, to)
 }
@@ -120,7 +120,7 @@ fn push_line(
     to: &Receiver,
 ) -> Result<(), AllocError>
     ensures { OnOk result (text.new.items
-        ≡ text.old.items ++ rendered to.now.caps to.now.moment (tagged_as tag.now line.now ∷ [])) }
+        ≡ text.old.items ++ text_as to.now.caps to.now.moment (tagged_as tag.now line.now ∷ [])) }
 {
     push_lines(alloc, text, tag, slice::from_ref(line), to)
 }
@@ -136,7 +136,7 @@ fn push_batch(
     lines: &[Line],
     to: &Receiver,
 ) -> Result<(), AllocError>
-    ensures { OnOk result (text.new.items ≡ text.old.items ++ rendered to.now.caps to.now.moment
+    ensures { OnOk result (text.new.items ≡ text.old.items ++ text_as to.now.caps to.now.moment
         (batched_as server.now label.now number lines.now)) }
 {
     push_line(alloc, text, label, &batch_opens(alloc, server, number)?, to)?;
@@ -154,8 +154,8 @@ fn push_labelled(
     lines: &[Line],
     to: &Receiver,
 ) -> Result<(), AllocError>
-    ensures { OnOk result (text.new.items ≡ text.old.items ++ rendered to.now.caps to.now.moment
-        (labelled server.now label number lines.now)) }
+    ensures { OnOk result (text.new.items ≡ text.old.items ++ text_as to.now.caps to.now.moment
+        (with_label server.now label number lines.now)) }
 {
     let label = Some(AnswerTag::Label(label));
     match lines.len() {
@@ -175,8 +175,8 @@ fn push_answer(
     lines: &[Line],
     to: &Receiver,
 ) -> Result<(), AllocError>
-    ensures { OnOk result (text.new.items ≡ text.old.items ++ rendered to.now.caps to.now.moment
-        (wrapped server.now label number lines.now)) }
+    ensures { OnOk result (text.new.items ≡ text.old.items ++ text_as to.now.caps to.now.moment
+        (wrap_of server.now label number lines.now)) }
 {
     match label {
         Some(label) => push_labelled(alloc, text, server, label, number, lines, to),
@@ -251,8 +251,8 @@ fn listed_text(
     copies: &[Line],
     to: &Receiver,
 ) -> Result<Octets, AllocError>
-    ensures { IfOk result (λ t. t ≡ rendered to.now.caps to.now.moment
-        (answered server.now label number reply.now copies.now)) }
+    ensures { IfOk result (λ t. t ≡ text_as to.now.caps to.now.moment
+        (whole_answer server.now label number reply.now copies.now)) }
 {
     let mut text = Vec::new(alloc);
     push_answer(alloc, &mut text, server, label, number, reply, to)?;
@@ -272,8 +272,8 @@ pub fn answer_text(
     copies: &[Line],
     to: &Receiver,
 ) -> Result<Octets, AllocError>
-    ensures { IfOk result (λ t. t ≡ rendered to.now.caps to.now.moment
-        (answered server.now label number reply.items copies.now)) }
+    ensures { IfOk result (λ t. t ≡ text_as to.now.caps to.now.moment
+        (whole_answer server.now label number reply.items copies.now)) }
 {
     match sole_line(reply, copies) {
         Ok(line) => sole_text(alloc, label, line, to),

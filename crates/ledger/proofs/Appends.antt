@@ -15,19 +15,19 @@ use Rattle.deliveries.specs.declared.item.Item.{Item}
 use Rattle.deliveries.specs.declared.delivery.Delivery.TheVariants.{Last}
 use Rattle.roster.specs.declared.deed.Deed.{Deed}
 use Rattle.commands.specs.Asked.{asked_of}
-use Rattle.roster.specs.LookBack.{after, caps, opened}
+use Rattle.roster.specs.LookBack.{after, caps, opened_in}
 use Rattle.labels_batches.specs.Labels.{label_of}
-use Rattle.deeds.specs.Deeds.{spelled}
+use Rattle.deeds.specs.Deeds.{octets_for}
 use Rattle.roster.specs.Legal.{IsOpened}
 use Rattle.deeds.specs.Rows.{of_asked}
 use Rattle.deeds.specs.Departure.{departs}
-use Rattle.drafts.specs.Effects.{deeds_of}
+use Rattle.transactions.specs.Effects.{deeds_of}
 use Rattle.registration.specs.declared.settings.Settings.{Settings}
 use Rattle.ledger.specs.declared.plan.Planned.{Planned}
 use Rattle.ledger.specs.declared.seat.Seat.{Seat}
 use Rattle.ledger.specs.Kept.{IsKept}
 use Rattle.ledger.specs.Seats.{no_seat, seat_at, planned_from, MayFollow, IsTaken}
-use Rattle.ledger.specs.Ledger.{Turn, MayBegin, MayHang, MaySweep, box_at, held, plan_of, to_sweep}
+use Rattle.ledger.specs.Ledger.{Turn, MayBegin, MayHang, MaySweep, box_at, kept_total, plan_of, to_sweep}
 use Rattle.ledger.proofs.About.{not_gone_yet}
 use Rattle.ledger.proofs.KeptSteps.{shown, quiet, begun_kept, delivered_kept, dropped_kept, finished_kept}
 use Rattle.ledger.proofs.Sound.{next_follows}
@@ -65,7 +65,7 @@ last_item g h s w moment = record {
 
 -- ---- a line
 
-module _ {O : Type 0} (sent : O → List Item) (j : journal.Shown) (g : Settings) (known : List Deed)
+module _ {O : Type 0} (sent : O → List Item) (j : journal.JournalView) (g : Settings) (known : List Deed)
     (seats : List Seat) (boxes : List (Option O)) (none : List Planned) (busy : Bool)
     (i : IsKept sent j g known seats boxes none busy) where
   -- there are as many seats as sessions
@@ -86,27 +86,27 @@ module _ {O : Type 0} (sent : O → List Item) (j : journal.Shown) (g : Settings
 
   pub said_plan : (b : Turn) (piece : Piece) (moment : ℤ) (number : ℕ) (quits : Bool) (plan : List Planned)
       → MayBegin (shown j g boxes none busy) b moment → number ≡ length j.history + 1 → quits ≡ is_quit piece
-      → plan ≡ planned_from seats b.session number (spelled g known b.session
+      → plan ≡ planned_from seats b.session number (octets_for g known b.session
       (label_of (caps known b.session) piece) (of_asked g known b.session (asked_of piece)) moment number) quits
       → plan ≡ plan_of g j.history (Said b.session b.next piece) moment (length boxes)
   said_plan b piece moment number quits plan may en eq eplan =
       let h = j.history in let s = b.session in let k = Said s b.next piece in
       let from : 0 < s = may.turn.from_1 in let to : s ≤ length seats = seated s may.turn.opened in
       let own : ends k s ≡ quits = ap (λ c. c && is_quit piece) (eq-eqb s s refl) ∙ sym eq in
-      eplan ∙ ap (λ (fs : List Deed). planned_from seats s number (spelled g fs s (label_of (caps fs s) piece)
+      eplan ∙ ap (λ (fs : List Deed). planned_from seats s number (octets_for g fs s (label_of (caps fs s) piece)
       (of_asked g fs s (asked_of piece)) moment number) quits) i.facts
       ∙ plan_right g h seats boxes k moment quits number (length boxes) i.each_seat en i.places
       (i.places ∙ sym i.sound.sessions) refl from to own refl (λ t ne. (quiet k t refl ne).0)
 
-  pub said_kept : (k : journal.Shown) (more_known : List Deed) (plan : List Planned) (b : Turn) (piece : Piece)
+  pub said_kept : (k : journal.JournalView) (more_known : List Deed) (plan : List Planned) (b : Turn) (piece : Piece)
       (moment : ℤ) (quits : Bool)
       → MayBegin (shown j g boxes none busy) b moment → quits ≡ is_quit piece
       → (seat_at seats b.session).accepted + 1 < 18446744073709551616
       → plan ≡ plan_of g j.history (Said b.session b.next piece) moment (length boxes)
       → k.history ≡ fresh_record j.history moment (Said b.session b.next piece) ∷ j.history → k.limit ≡ j.limit
-      → length plan ≤ k.left → held j.history ≤ k.room
+      → length plan ≤ k.left → kept_total j.history ≤ k.room
       → more_known ≡ after known (deeds_of (of_asked g known b.session (asked_of piece)))
-      → opened more_known ≡ opened known
+      → opened_in more_known ≡ opened_in known
       → IsKept sent k g more_known (slice_set seats (b.session - 1) (record {
         shut = quits;
         gone =
@@ -124,7 +124,7 @@ module _ {O : Type 0} (sent : O → List Item) (j : journal.Shown) (g : Settings
       begun_kept sent j k g known more_known seats (slice_set seats (s - 1) new) boxes none plan kind moment new
       (subst (λ (c : Bool). IsKept sent j g known seats boxes none c) may.idle i) refl from to
       (from, may.turn.opened, may.turn.next, may.not_shut) may.in_time
-      (let a = may.room in let goal : length h + 1 + held (r ∷ h) ≤ most j.limit = omega arith in goal)
+      (let a = may.room in let goal : length h + 1 + kept_total (r ∷ h) ≤ most j.limit = omega arith in goal)
       eh el room (omega arith) ek same_opened refl
       (record {
         shut = own ∙ or-false (ends kind s) (shut h s) may.not_shut;
@@ -145,7 +145,7 @@ module _ {O : Type 0} (sent : O → List Item) (j : journal.Shown) (g : Settings
       (hung_less h s w moment may.not_shut (not_gone_yet g h s i.sound.legal may.not_shut)) in
       let room = i.room in omega arith
 
-  pub sweep_room : (s : ℕ) (moment : ℤ) → to_sweep j.history ≡ Some s → (0 < held j.history) × (s ≤ length seats)
+  pub sweep_room : (s : ℕ) (moment : ℤ) → to_sweep j.history ≡ Some s → (0 < kept_total j.history) × (s ≤ length seats)
       × IsOpened known s × (length j.history + 1 ≤ most j.limit)
   sweep_room s moment next =
       let h = j.history in
@@ -158,21 +158,21 @@ module _ {O : Type 0} (sent : O → List Item) (j : journal.Shown) (g : Settings
 
   pub gone_plan : (s number : ℕ) (moment : ℤ) (plan : List Planned) → to_sweep j.history ≡ Some s
       → number ≡ length j.history + 1
-      → plan ≡ planned_from seats s number (spelled g known s None (departs known s) moment number) false
+      → plan ≡ planned_from seats s number (octets_for g known s None (departs known s) moment number) false
       → plan ≡ plan_of g j.history (Gone s) moment (length boxes)
   gone_plan s number moment plan next en eplan =
       let h = j.history in let k = Gone s in let is = swept_is h s next in
       eplan ∙ ap (λ (fs : List Deed). planned_from seats s number
-      (spelled g fs s None (departs fs s) moment number) false) i.facts
+      (octets_for g fs s None (departs fs s) moment number) false) i.facts
       ∙ plan_right g h seats boxes k moment false number (length boxes) i.each_seat en i.places
       (i.places ∙ sym i.sound.sessions) refl is.0 (seated s is.1) refl refl (λ t ne. refl)
 
-  pub gone_kept : (k : journal.Shown) (more_known : List Deed) (plan : List Planned) (moment : ℤ) (s : ℕ)
+  pub gone_kept : (k : journal.JournalView) (more_known : List Deed) (plan : List Planned) (moment : ℤ) (s : ℕ)
       → MaySweep (shown j g boxes none busy) moment → to_sweep j.history ≡ Some s
       → plan ≡ plan_of g j.history (Gone s) moment (length boxes)
       → k.history ≡ fresh_record j.history moment (Gone s) ∷ j.history → k.limit ≡ j.limit → length plan ≤ k.left
-      → held j.history ≤ k.room + 1
-      → more_known ≡ after known (deeds_of (departs known s)) → opened more_known ≡ opened known
+      → kept_total j.history ≤ k.room + 1
+      → more_known ≡ after known (deeds_of (departs known s)) → opened_in more_known ≡ opened_in known
       → IsKept sent k g more_known (slice_set seats (s - 1) (record {
         shut = (seat_at seats s).shut;
         gone = true;
@@ -186,7 +186,7 @@ module _ {O : Type 0} (sent : O → List Item) (j : journal.Shown) (g : Settings
       let yes : (s == s) ≡ true = eq-eqb s s refl in
       begun_kept sent j k g known more_known seats (slice_set seats (s - 1) new) boxes none plan kind moment new
       (subst (λ (c : Bool). IsKept sent j g known seats boxes none c) may.idle i) refl is.0 to is may.in_time
-      (let a = i.sound.room in let goal : length h + 1 + held (r ∷ h) ≤ most j.limit = omega arith in goal)
+      (let a = i.sound.room in let goal : length h + 1 + kept_total (r ∷ h) ≤ most j.limit = omega arith in goal)
       eh el room (omega arith) ek same_opened refl
       (record {
         shut = was.shut;
@@ -198,7 +198,7 @@ module _ {O : Type 0} (sent : O → List Item) (j : journal.Shown) (g : Settings
 
   -- ---- a session is hung
 
-  hung_begun : (k : journal.Shown) (more_known : List Deed) (s : ℕ) (w : Why) (moment : ℤ)
+  hung_begun : (k : journal.JournalView) (more_known : List Deed) (s : ℕ) (w : Why) (moment : ℤ)
       → MayHang (shown j g boxes none busy) s moment
       → k.history ≡ fresh_record j.history moment (Hung s w) ∷ j.history → k.limit ≡ j.limit → 1 ≤ k.left
       → k.room + 1 ≡ j.room
@@ -217,8 +217,8 @@ module _ {O : Type 0} (sent : O → List Item) (j : journal.Shown) (g : Settings
       begun_kept sent j k g known more_known seats (slice_set seats (s - 1) new) boxes none _ kind moment new
       (subst (λ (c : Bool). IsKept sent j g known seats boxes none c) may.idle i) refl from to
       (from, few, may.not_shut) may.in_time
-      (let a = i.sound.room in let goal : length h + 1 + held (r ∷ h) ≤ most j.limit = omega arith in goal)
-      eh el room (omega arith) ek (ap opened ek) refl
+      (let a = i.sound.room in let goal : length h + 1 + kept_total (r ∷ h) ≤ most j.limit = omega arith in goal)
+      eh el room (omega arith) ek (ap opened_in ek) refl
       (record {
         shut = sym (ap (λ c. c || shut h s) yes);
         gone = was.gone;
@@ -231,7 +231,7 @@ module _ {O : Type 0} (sent : O → List Item) (j : journal.Shown) (g : Settings
   idle s moment may = i.sound.idle may.idle
 
   -- its last item may be put
-  pub hung_follows : (k : journal.Shown) (more_known : List Deed) (s : ℕ) (w : Why) (moment : ℤ)
+  pub hung_follows : (k : journal.JournalView) (more_known : List Deed) (s : ℕ) (w : Why) (moment : ℤ)
       → MayHang (shown j g boxes none busy) s moment
       → k.history ≡ fresh_record j.history moment (Hung s w) ∷ j.history → k.limit ≡ j.limit → 1 ≤ k.left
       → k.room + 1 ≡ j.room
@@ -244,7 +244,7 @@ module _ {O : Type 0} (sent : O → List Item) (j : journal.Shown) (g : Settings
       (record { delivery = Last (length j.history + 1) w; session = s; front = h; settings = g })) eh
       (next_follows sent (shown k g boxes (p ∷ []) true) p [] refl begun_.sound)
 
-  pub hung_put : (k : journal.Shown) (more_known : List Deed) (more : List (Option O)) (s : ℕ) (w : Why)
+  pub hung_put : (k : journal.JournalView) (more_known : List Deed) (more : List (Option O)) (s : ℕ) (w : Why)
       (moment : ℤ) (accepts : O → Item → O → Type 0)
       → MayHang (shown j g boxes none busy) s moment
       → k.history ≡ fresh_record j.history moment (Hung s w) ∷ j.history → k.limit ≡ j.limit → 1 ≤ k.left
@@ -267,7 +267,7 @@ module _ {O : Type 0} (sent : O → List Item) (j : journal.Shown) (g : Settings
       (subst (λ (xs : List Planned). IsKept sent k g more_known (shut_seats seats s) more xs false)
       (sym (idle s moment may)) (finished_kept sent k g more_known (shut_seats seats s) more [] true put refl))
 
-  pub hung_missed : (k n : journal.Shown) (more_known : List Deed) (s : ℕ) (w : Why) (moment : ℤ)
+  pub hung_missed : (k n : journal.JournalView) (more_known : List Deed) (s : ℕ) (w : Why) (moment : ℤ)
       → MayHang (shown j g boxes none busy) s moment
       → k.history ≡ fresh_record j.history moment (Hung s w) ∷ j.history → k.limit ≡ j.limit → 1 ≤ k.left
       → k.room + 1 ≡ j.room

@@ -8,15 +8,15 @@ use Rattle.numerics.specs.declared.outgoing.Out.{Out}
 use Rattle.roster.specs.declared.deed.Deed.{Deed}
 use Rattle.roster.specs.LookBack.{caps}
 use Rattle.labels_batches.specs.Answers.{tagged_as}
-use Rattle.labels_batches.specs.Rendered.{rendered}
-use Rattle.ledger.specs.declared.heard.Heard.{Heard}
-use Rattle.drafts.specs.Effects.{heard}
+use Rattle.labels_batches.specs.Rendered.{text_as}
+use Rattle.ledger.specs.declared.fan_out.Heard.{Heard}
+use Rattle.transactions.specs.Effects.{lines_heard}
 use Rattle.ledger.specs.declared.seat.Seat.{Seat}
 use Rattle.ledger.specs.Ledger.{others}
 use Rattle.ledger.specs.Seats.{told_here, told_to, heard_text}
-use Rattle.ledger.specs.Heard.{heard_by, text_for, rises, ascends, joined, joined_to, delivery_of, deliveries_of}
+use Rattle.ledger.specs.FanOut.{heard_by, text_for, rises, ascends, one_each, joined_to, delivery_of, deliveries_of}
 use Rattle.ledger.proofs.Begins.{others_same}
-use Rattle.ledger.proofs.Heards.{session_ties, heard_each, deliveries_others}
+use Rattle.ledger.proofs.FanOut.{session_ties, heard_each, deliveries_others}
 
 -- what they hear stands by their numbers
 pub ascend_rises : (fs : List Deed) (moment : ℤ) (line : Out) (k : ℕ) (ts : List ℕ) → ascends k ts
@@ -35,7 +35,7 @@ ascend_joined_to fs moment line t (u ∷ us) up =
     (ap (λ (xs : List Heard). heard_by fs moment line t ∷ xs) (ascend_joined_to fs moment line u us up.1))
 
 pub ascend_joined : (fs : List Deed) (moment : ℤ) (line : Out) (ts : List ℕ) → ascends 0 ts
-    → joined (map (heard_by fs moment line) ts) ≡ map (heard_by fs moment line) ts
+    → one_each (map (heard_by fs moment line) ts) ≡ map (heard_by fs moment line) ts
 ascend_joined fs moment line [] up = refl
 ascend_joined fs moment line (t ∷ ts) up = ascend_joined_to fs moment line t ts up.1
 
@@ -52,7 +52,7 @@ pub same_heard : (fs : List Deed) (moment : ℤ) (line : Out) (xs ys : List ℕ)
     → filter (λ h. h == t) ys ≡ filter (λ h. h == t) xs
     → heard_text fs moment (record { hearers = ys; line = line } ∷ []) t
     ≡ heard_text fs moment (record { hearers = xs; line = line } ∷ []) t
-same_heard fs moment line xs ys t e = ap (λ (hs : List ℕ). rendered (caps fs t) moment
+same_heard fs moment line xs ys t e = ap (λ (hs : List ℕ). text_as (caps fs t) moment
     (map (tagged_as None) (map (λ h. line) hs)) ++ []) e
 
 pub heard_sole : (fs : List Deed) (moment : ℤ) (line : Out) (xs ys : List ℕ) (t : ℕ)
@@ -60,7 +60,7 @@ pub heard_sole : (fs : List Deed) (moment : ℤ) (line : Out) (xs ys : List ℕ)
     → text_for (map (heard_by fs moment line) ys) t
     ≡ heard_text fs moment (record { hearers = xs; line = line } ∷ []) t
 heard_sole fs moment line xs ys t e = heard_each fs moment line ys t
-    ∙ sym (append-nil (rendered (caps fs t) moment (map (tagged_as None) (heard ys line t))))
+    ∙ sym (append-nil (text_as (caps fs t) moment (map (tagged_as None) (lines_heard ys line t))))
     ∙ same_heard fs moment line xs ys t e
 
 -- ---- their deliveries

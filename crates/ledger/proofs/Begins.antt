@@ -8,15 +8,15 @@ use Rattle.chronicle.specs.declared.record.Kind.TheVariants.{Hung}
 use Rattle.chronicle.specs.declared.why.Why.{Why}
 use Rattle.chronicle.specs.declared.why.Why.TheVariants.{Quit}
 use Rattle.chronicle.specs.History.{Rec, actor, sessions, ends, shut}
-use Rattle.chronicle.specs.Quiet.{is_tick, is_pinged}
+use Rattle.chronicle.specs.Idle.{is_tick, is_pinged}
 use Rattle.chronicle.specs.Journal.{fresh_record, miss}
 use Rattle.chronicle.specs.Journal as journal
 use Rattle.deliveries.specs.declared.delivery.Delivery.{Delivery}
 use Rattle.deliveries.specs.declared.item.Item.{Item}
 use Rattle.deliveries.specs.declared.delivery.Delivery.TheVariants.{Last}
 use Rattle.outbox.specs.declared.queue.PutFault.{PutFault}
-use Rattle.ledger.specs.declared.out.Step.{Step}
-use Rattle.ledger.specs.declared.out.Step.TheVariants.{Put, Missed}
+use Rattle.ledger.specs.declared.outcomes.Step.{Step}
+use Rattle.ledger.specs.declared.outcomes.Step.TheVariants.{Put, Missed}
 use Rattle.deeds.specs.Deeds.{facts, text}
 use Rattle.registration.specs.declared.settings.Settings.{Settings}
 use Rattle.ledger.specs.declared.plan.Planned.{Planned}
@@ -24,11 +24,11 @@ use Rattle.ledger.specs.declared.seat.Seat.{Seat}
 use Rattle.roster.specs.LookBack.{caps}
 use Rattle.labels_batches.specs.Spellings.{spelled_for}
 use Rattle.deeds.specs.Ping.{ping_line}
-use Rattle.deliveries.specs.Owed.{item, ticked, told, reason}
-use Rattle.ledger.specs.Seats.{IsSeat, seat_at, hears, told as tells, told_to}
+use Rattle.deliveries.specs.Owed.{item, tick_text, told_text, reason}
+use Rattle.ledger.specs.Seats.{IsSeat, seat_at, hears, unless_shut as tells, told_to}
 use Rattle.ledger.specs.Seats.{told_own, planned_from, IsTaken, IsNotTaken}
-use Rattle.ledger.specs.Ledger.{Shown, item_of, due, puts, others, plan_by, plan_of, begun, is_here}
-use Rattle.ledger.specs.Ledger.{delivered_to, dropped, finished, IsPutNext, IsPutAll, IsDone}
+use Rattle.ledger.specs.Ledger.{Shown, item_of, due, puts, others, plan_by, plan_of, after_begin, is_here}
+use Rattle.ledger.specs.Ledger.{delivered_to, after_miss, after_end, IsPutNext, IsPutAll, IsDone}
 use Rattle.ledger.proofs.Begun.{plan_hung}
 use Rattle.ledger.proofs.KeptSteps.{shown, shown_with}
 
@@ -36,7 +36,7 @@ use Rattle.ledger.proofs.KeptSteps.{shown, shown_with}
 
 -- what is no tick pings nobody
 no_tick : (g : Settings) (h : List Rec) (k : Kind) (moment : ℤ) (t : ℕ) → is_tick k ≡ false
-    → ticked g h k moment t ≡ []
+    → tick_text g h k moment t ≡ []
 no_tick g h k moment t e = ap
     (λ b. cond (b && is_pinged h t moment) (spelled_for (caps (facts g h) t) moment (ping_line g.server)) []) e
 
@@ -47,7 +47,7 @@ due_told : (g : Settings) (h : List Rec) (k : Kind) (moment : ℤ) (t : ℕ)
 due_told g h k moment t none known e =
     let before : nat_le t (sessions h) ≡ true = grind (arith, nat_tests) in
     ap (λ b. cond (shut h t) []
-    (cond b (Last (length h + 1) (reason k) ∷ []) (item (length h + 1) (told g h k moment t)))) e
+    (cond b (Last (length h + 1) (reason k) ∷ []) (item (length h + 1) (told_text g h k moment t)))) e
     ∙ ap (λ xs. cond (shut h t) [] (item (length h + 1) (xs ++ cond (nat_le t (sessions h))
     (text g (facts g h) k moment (length h + 1) t) []))) (no_tick g h k moment t none)
     ∙ ap (λ b. cond (shut h t) [] (item (length h + 1) (cond b (text g (facts g h) k moment (length h + 1) t) [])))
@@ -59,7 +59,7 @@ due_own : (g : Settings) (h : List Rec) (k : Kind) (moment : ℤ) (quits : Bool)
     → due g h k moment t ≡ told_own (shut h t) (length h + 1) (text g (facts g h) k moment (length h + 1) t) quits
 due_own g h k moment true t none known e why =
     ap (λ b. cond (shut h t) []
-    (cond b (Last (length h + 1) (reason k) ∷ []) (item (length h + 1) (told g h k moment t)))) e ∙ ap
+    (cond b (Last (length h + 1) (reason k) ∷ []) (item (length h + 1) (told_text g h k moment t)))) e ∙ ap
     (λ w. cond (shut h t) [] (Last (length h + 1) w ∷ [])) why
 due_own g h k moment false t none known e why = due_told g h k moment t none known e
 
@@ -104,11 +104,11 @@ plan_right g h seats boxes k moment quits number n seat en el all none from to o
 
 -- ---- the state
 
-pub begun_is : {O : Type 0} (j k : journal.Shown) (g : Settings) (boxes : List (Option O))
+pub begun_is : {O : Type 0} (j k : journal.JournalView) (g : Settings) (boxes : List (Option O))
     (none plan : List Planned) (busy : Bool) (kind : Kind) (moment : ℤ)
     → k.history ≡ fresh_record j.history moment kind ∷ j.history → k.limit ≡ j.limit
     → plan ≡ plan_of g j.history kind moment (length boxes)
-    → shown k g boxes plan true ≡ begun (shown j g boxes none busy) kind moment
+    → shown k g boxes plan true ≡ after_begin (shown j g boxes none busy) kind moment
 begun_is j k g boxes none plan busy kind moment eh el ep =
     shown_with j k (fresh_record j.history moment kind ∷ j.history) g boxes plan true eh el
     ∙ ap (λ (x : List Planned). record {
@@ -123,19 +123,19 @@ begun_is j k g boxes none plan busy kind moment eh el ep =
 -- a session that is hung is told so at once, or misses it
 pub hung_is : {O : Type 0} (accepts : O → Item → O → Type 0) (refuses : O → PutFault → Type 0) (m n : Shown O)
     (s : ℕ) (w : Why) (moment : ℤ) (step : Step) → shut m.history s ≡ false
-    → IsPutNext accepts refuses (begun m (Hung s w) moment)
+    → IsPutNext accepts refuses (after_begin m (Hung s w) moment)
     (record { session = s; delivery = Last (length m.history + 1) w } ∷ []) (Some step) n
-    → IsDone accepts refuses m (Hung s w) moment (finished n)
+    → IsDone accepts refuses m (Hung s w) moment (after_end n)
 hung_is accepts refuses m n s w moment step open_ is =
     let one = plan_hung m.settings m.history s w moment (length m.outboxes) open_ in (
       n,
-      subst (λ (ps : List Planned). IsPutAll accepts refuses (begun m (Hung s w) moment) ps n) (sym one)
+      subst (λ (ps : List Planned). IsPutAll accepts refuses (after_begin m (Hung s w) moment) ps n) (sym one)
           (n, step, is, refl),
       refl,
     )
 
 module _ {O : Type 0} (sent : O → List Item) (accepts : O → Item → O → Type 0) (refuses : O → PutFault → Type 0)
-    (j k : journal.Shown) (g : Settings) (boxes : List (Option O)) (none : List Planned) (busy : Bool) (s : ℕ)
+    (j k : journal.JournalView) (g : Settings) (boxes : List (Option O)) (none : List Planned) (busy : Bool) (s : ℕ)
     (w : Why) (moment : ℤ) (en : none ≡ []) (eb : busy ≡ false) (open_ : shut j.history s ≡ false)
     (eh : k.history ≡ fresh_record j.history moment (Hung s w) ∷ j.history) (el : k.limit ≡ j.limit) where
   abbrev before : Shown O
@@ -145,13 +145,13 @@ module _ {O : Type 0} (sent : O → List Item) (accepts : O → Item → O → T
   last = record { session = s; delivery = Last (length j.history + 1) w }
 
   abbrev began : Shown O
-  began = begun before (Hung s w) moment
+  began = after_begin before (Hung s w) moment
 
   pub hung_put_is : (more : List (Option O)) → IsTaken sent accepts boxes (item_of began last) more
       → IsDone accepts refuses before (Hung s w) moment (shown k g more none busy)
   hung_put_is more i =
       let r = fresh_record j.history moment (Hung s w) in let n : Shown O = delivered_to began last [] i.after in
-      let is : shown k g more none busy ≡ finished n =
+      let is : shown k g more none busy ≡ after_end n =
       shown_with j k (r ∷ j.history) g more none busy eh el
       ∙ ap (λ (xs : List (Option O)). record {
         history = r ∷ j.history;
@@ -181,13 +181,13 @@ module _ {O : Type 0} (sent : O → List Item) (accepts : O → Item → O → T
       (hung_is accepts refuses before n s w moment (Put s) open_
       (refl, record { before = i.before; after = i.after; here = i.here; accepted = i.accepted; book = refl }))
 
-  pub hung_miss_is : (m : journal.Shown) → IsNotTaken refuses boxes (item_of began last)
+  pub hung_miss_is : (m : journal.JournalView) → IsNotTaken refuses boxes (item_of began last)
       → m.history ≡ miss k.history s → m.limit ≡ k.limit
       → IsDone accepts refuses before (Hung s w) moment (shown m g boxes none busy)
   hung_miss_is m i em lm =
       let r = fresh_record j.history moment (Hung s w) in
-      let h = miss (r ∷ j.history) s in let n : Shown O = dropped began last [] in
-      let is : shown m g boxes none busy ≡ finished n =
+      let h = miss (r ∷ j.history) s in let n : Shown O = after_miss began last [] in
+      let is : shown m g boxes none busy ≡ after_end n =
       shown_with j m h g boxes none busy (em ∙ ap (λ x. miss x s) eh) (lm ∙ el)
       ∙ ap (λ (ps : List Planned). record {
         history = h;

@@ -15,40 +15,41 @@ use Rattle.deliveries.specs.declared.item.Item.{Item}
 use Rattle.registration.specs.declared.settings.Settings.{Settings}
 use Rattle.ledger.specs.declared.plan.Planned.{Planned}
 use Rattle.deliveries.specs.declared.delivery.Delivery.TheVariants.{Last}
-use Rattle.deliveries.specs.Owed.{told, item, reason, delivery}
+use Rattle.deliveries.specs.Owed.{told_text, item, reason, delivery}
 use Rattle.ledger.specs.Legal.{IsKind}
 use Rattle.roster.specs.LookBack.{numbers}
 use Rattle.deliveries.specs.Items.{deliveries}
 use Rattle.deliveries.proofs.Growing.{grows_by_one}
 use Rattle.ledger.proofs.Sent.{sent_grown}
-use Rattle.ledger.specs.Ledger.{Shown, box_at, sent_by, kept_for, held, due, puts, others}
-use Rattle.ledger.specs.Ledger.{plan_by, plan_of, planned, begun, IsPlan, IsSound}
+use Rattle.ledger.specs.Ledger.{Shown, box_at, sent_by, kept_for, kept_total, due, puts, others}
+use Rattle.ledger.specs.Ledger.{plan_by, plan_of, plan_part, after_begin, IsPlan, IsSound}
 use Rattle.ledger.proofs.Sound.{sum_le, kept_less}
 
-pub planned_puts : (k t : ℕ) (xs : List Delivery) (ps : List Planned) → planned (puts k xs ++ ps) t
-    ≡ cond (k == t) (xs ++ planned ps t) (planned ps t)
-planned_puts k t [] ps = let P = planned ps t in elim (k == t) as (λ c. P ≡ cond c P P) [ true ↦ refl | false ↦ refl ]
+pub planned_puts : (k t : ℕ) (xs : List Delivery) (ps : List Planned) → plan_part (puts k xs ++ ps) t
+    ≡ cond (k == t) (xs ++ plan_part ps t) (plan_part ps t)
+planned_puts k t [] ps = let P = plan_part ps t in
+    elim (k == t) as (λ c. P ≡ cond c P P) [ true ↦ refl | false ↦ refl ]
 planned_puts k t (x ∷ xs) ps =
-    let P = planned ps t in
+    let P = plan_part ps t in
     rw (planned_puts k t xs ps) (elim (k == t) as (λ c. cond c (x ∷ cond c (xs ++ P) P) (cond c (xs ++ P) P)
     ≡ cond c (x ∷ (xs ++ P)) P) [ true ↦ refl | false ↦ refl ])
 
 -- one session's part of the others
-others_one : (f : ℕ → List Delivery) (s k n t : ℕ) → planned
-    (cond (k == s) [] (puts k (f k)) ++ others f s (k + 1) n) t ≡ cond (k == s) (planned (others f s (k + 1) n) t)
-    (cond (k == t) (f k ++ planned (others f s (k + 1) n) t) (planned (others f s (k + 1) n) t))
+others_one : (f : ℕ → List Delivery) (s k n t : ℕ) → plan_part
+    (cond (k == s) [] (puts k (f k)) ++ others f s (k + 1) n) t ≡ cond (k == s) (plan_part (others f s (k + 1) n) t)
+    (cond (k == t) (f k ++ plan_part (others f s (k + 1) n) t) (plan_part (others f s (k + 1) n) t))
 others_one f s k n t = let rest = others f s (k + 1) n in
-    elim (k == s) as (λ c. planned (cond c [] (puts k (f k)) ++ rest) t ≡ cond c (planned rest t) (cond (k == t)
-    (f k ++ planned rest t) (planned rest t))) [ true ↦ refl | false ↦ planned_puts k t (f k) rest ]
+    elim (k == s) as (λ c. plan_part (cond c [] (puts k (f k)) ++ rest) t ≡ cond c (plan_part rest t) (cond (k == t)
+    (f k ++ plan_part rest t) (plan_part rest t))) [ true ↦ refl | false ↦ planned_puts k t (f k) rest ]
 
-others_before : (f : ℕ → List Delivery) (s k n t : ℕ) → t < k → planned (others f s k n) t ≡ []
+others_before : (f : ℕ → List Delivery) (s k n t : ℕ) → t < k → plan_part (others f s k n) t ≡ []
 others_before f s k zero t h = refl
 others_before f s k (suc n) t h =
     let ne : k ≢ t = omega arith in let none = others_before f s (k + 1) n t (omega arith) in
     others_one f s k n t ∙ rw (ne_eqb k t ne) (rw none
     (let E : List Delivery = [] in elim (k == s) as (λ c. cond c E E ≡ E) [ true ↦ refl | false ↦ refl ]))
 
-others_actor : (f : ℕ → List Delivery) (s k n : ℕ) → planned (others f s k n) s ≡ []
+others_actor : (f : ℕ → List Delivery) (s k n : ℕ) → plan_part (others f s k n) s ≡ []
 others_actor f s k zero = refl
 others_actor f s k (suc n) =
     let none = others_actor f s (k + 1) n in
@@ -57,7 +58,7 @@ others_actor f s k (suc n) =
       | inr other ↦ rw other.0 none
     ]
 
-others_at : (f : ℕ → List Delivery) (s k n t : ℕ) → t ≢ s → k ≤ t → t < k + n → planned (others f s k n) t ≡ f t
+others_at : (f : ℕ → List Delivery) (s k n t : ℕ) → t ≢ s → k ≤ t → t < k + n → plan_part (others f s k n) t ≡ f t
 others_at f s k zero t ne h l = absurd (omega arith)
 others_at f s k (suc n) t ne h l =
     others_one f s k n t
@@ -72,11 +73,11 @@ others_at f s k (suc n) t ne h l =
     ]
 
 -- what a plan has for a session
-pub planned_plan : (f : ℕ → List Delivery) (s n t : ℕ) → 0 < t → t ≤ n → planned (plan_by f s n) t ≡ f t
+pub planned_plan : (f : ℕ → List Delivery) (s n t : ℕ) → 0 < t → t ≤ n → plan_part (plan_by f s n) t ≡ f t
 planned_plan f s n t from to =
     planned_puts s t (f s) (others f s 1 n)
     ∙ elim (eqb_tells s t) [
-      | inl same ↦ rw same.0 (ap (λ ps. f s ++ ps) (ap (λ (u : ℕ). planned (others f s 1 n) u) (sym same.1)
+      | inl same ↦ rw same.0 (ap (λ ps. f s ++ ps) (ap (λ (u : ℕ). plan_part (others f s 1 n) u) (sym same.1)
           ∙ others_actor f s 1 n) ∙ append-nil _ ∙ ap (λ (u : ℕ). f u) same.1)
       | inr other ↦ rw other.0 (others_at f s 1 n t (λ e. other.1 (sym e)) (omega arith) (omega arith))
     ]
@@ -90,11 +91,11 @@ due_cases g h k moment t =
     elim (shut h t) as (λ b. (cond b [] (delivery g h k moment t) ≡ []) ⊎ ((x : Delivery)
     × (cond b [] (delivery g h k moment t) ≡ x ∷ []) × (delivery g h k moment t ≡ x ∷ []) × (b ≡ false))) [
       | true ↦ inl refl
-      | false ↦ elim (ends k t) as (λ e. (cond e (L ∷ []) (item (length h + 1) (told g h k moment t)) ≡ [])
-          ⊎ ((x : Delivery) × (cond e (L ∷ []) (item (length h + 1) (told g h k moment t)) ≡ x ∷ [])
-          × (cond e (L ∷ []) (item (length h + 1) (told g h k moment t)) ≡ x ∷ []) × (false ≡ false))) [
+      | false ↦ elim (ends k t) as (λ e. (cond e (L ∷ []) (item (length h + 1) (told_text g h k moment t)) ≡ [])
+          ⊎ ((x : Delivery) × (cond e (L ∷ []) (item (length h + 1) (told_text g h k moment t)) ≡ x ∷ [])
+          × (cond e (L ∷ []) (item (length h + 1) (told_text g h k moment t)) ≡ x ∷ []) × (false ≡ false))) [
             | true ↦ inr (_, refl, refl, refl)
-            | false ↦ elim (told g h k moment t) as (λ ls. (item (length h + 1) ls ≡ []) ⊎ ((x : Delivery)
+            | false ↦ elim (told_text g h k moment t) as (λ ls. (item (length h + 1) ls ≡ []) ⊎ ((x : Delivery)
                 × (item (length h + 1) ls ≡ x ∷ []) × (item (length h + 1) ls ≡ x ∷ []) × (false ≡ false))) [
                   | [] ↦ inl refl
                   | l ∷ ls ↦ inr (_, refl, refl, refl)
@@ -104,7 +105,7 @@ due_cases g h k moment t =
 
 -- the parts of a plan for one session, before a plan in which it has nothing
 puts_ok : (g : Settings) (r : Rec) (h : List Rec) (n t : ℕ) (ps : List Planned) → r.missed ≡ [] → 0 < t → t ≤ n
-    → planned ps t ≡ [] → IsPlan g (r ∷ h) n ps → IsPlan g (r ∷ h) n (puts t (due g h r.kind r.moment t) ++ ps)
+    → plan_part ps t ≡ [] → IsPlan g (r ∷ h) n ps → IsPlan g (r ∷ h) n (puts t (due g h r.kind r.moment t) ++ ps)
 puts_ok g r h n t ps nobody from to none i =
     let P : List Delivery → Type 0 = λ xs. IsPlan g (r ∷ h) n (puts t xs ++ ps) in
     elim (due_cases g h r.kind r.moment t) [
@@ -141,13 +142,13 @@ plan_of_none g r h n nobody none = subst
 pub begun_by : {O : Type 0} (sent : O → List Item) (m : Shown O) (k : Kind) (moment : _) → IsSound sent m
     → m.busy ≡ false → opened_by k ≡ 0 → IsPlan m.settings (fresh_record m.history moment k ∷ m.history)
     (length m.outboxes) (plan_of m.settings m.history k moment (length m.outboxes))
-    → IsKind m.history k → IsMomentAfter (last_moment m.history) moment → length m.history + 1 + held
-    (fresh_record m.history moment k ∷ m.history) ≤ most m.limit → IsSound sent (begun m k moment)
+    → IsKind m.history k → IsMomentAfter (last_moment m.history) moment → length m.history + 1 + kept_total
+    (fresh_record m.history moment k ∷ m.history) ≤ most m.limit → IsSound sent (after_begin m k moment)
 begun_by sent m k moment i free none is_plan is in_time room_ =
     let h = m.history in let g = m.settings in let n = length m.outboxes in let r = fresh_record h moment k in
-    let nothing : (t : ℕ) → deliveries (sent_by sent (box_at m.outboxes t)) ++ planned m.plan t
+    let nothing : (t : ℕ) → deliveries (sent_by sent (box_at m.outboxes t)) ++ plan_part m.plan t
     ≡ deliveries (sent_by sent (box_at m.outboxes t)) =
-    λ t. ap (λ ps. deliveries (sent_by sent (box_at m.outboxes t)) ++ planned ps t) (i.idle free) ∙ append-nil _ in
+    λ t. ap (λ ps. deliveries (sent_by sent (box_at m.outboxes t)) ++ plan_part ps t) (i.idle free) ∙ append-nil _ in
     let same : opened_by k + sessions h ≡ sessions h = ap (λ (j : ℕ). j + sessions h) none ∙ zero-add (sessions h) in
     record {
       owed = λ t above below here.
@@ -162,14 +163,14 @@ begun_by sent m k moment i free none is_plan is in_time room_ =
       idle = λ e. absurd (let f : true ≡ false = e in cc);
       legal = (refl, in_time, is, tt, i.legal);
       sessions = same ∙ i.sessions;
-      room = let goal : length (r ∷ h) + held (r ∷ h) ≤ most m.limit = omega arith in goal;
+      room = let goal : length (r ∷ h) + kept_total (r ∷ h) ≤ most m.limit = omega arith in goal;
     }
 
 pub begun_sound : {O : Type 0} (sent : O → List Item) (m : Shown O) (k : Kind) (moment : _) → IsSound sent m
     → m.busy ≡ false → opened_by k ≡ 0 → 0 < actor k → actor k ≤ length m.outboxes → IsKind m.history k
     → IsMomentAfter (last_moment m.history) moment
-    → length m.history + 1 + held (fresh_record m.history moment k ∷ m.history) ≤ most m.limit
-    → IsSound sent (begun m k moment)
+    → length m.history + 1 + kept_total (fresh_record m.history moment k ∷ m.history) ≤ most m.limit
+    → IsSound sent (after_begin m k moment)
 begun_sound sent m k moment i free none from to is in_time room_ =
     begun_by sent m k moment i free none (plan_ok m.settings (fresh_record m.history moment k) m.history
     (length m.outboxes) (actor k) refl from to) is in_time room_
@@ -200,13 +201,15 @@ same_sessions : (h : List Rec) (k : Kind) → opened_by k ≡ 0 → numbers 1 (o
 same_sessions h k none = ap (λ (j : ℕ). numbers 1 (j + sessions h)) none ∙ ap
     (λ (j : ℕ). numbers 1 j) (zero-add (sessions h))
 
-pub held_after : (h : List Rec) (k : Kind) (moment : _) → opened_by k ≡ 0 → held (fresh_record h moment k ∷ h) ≤ held h
+pub held_after : (h : List Rec) (k : Kind) (moment : _) → opened_by k ≡ 0
+    → kept_total (fresh_record h moment k ∷ h) ≤ kept_total h
 held_after h k moment none = rw (same_sessions h k none)
     (sum_le (kept_for (fresh_record h moment k ∷ h)) (kept_for h) (numbers 1 (sessions h)) (kept_after h k moment))
 
 -- one less where the record ends its session or says that it is gone
 pub held_less : (h : List Rec) (k : Kind) (moment : _) (s : ℕ) → opened_by k ≡ 0 → 0 < s → s ≤ sessions h
-    → kept_for (fresh_record h moment k ∷ h) s + 1 ≤ kept_for h s → held (fresh_record h moment k ∷ h) + 1 ≤ held h
+    → kept_for (fresh_record h moment k ∷ h) s + 1 ≤ kept_for h s
+    → kept_total (fresh_record h moment k ∷ h) + 1 ≤ kept_total h
 held_less h k moment s none from to less =
     rw (same_sessions h k none) (sum_less (kept_for (fresh_record h moment k ∷ h)) (kept_for h) s 1 (sessions h)
     (kept_after h k moment) less from (omega arith))

@@ -10,7 +10,7 @@ use Rattle.std.specs.Option.{is_some}
 use Rattle.roster.specs.LookBack.{numbers}
 use Rattle.ledger.specs.declared.seat.Seat.{Seat}
 use Rattle.ledger.specs.Ledger.{first, here_by, count_here}
-use Rattle.ledger.specs.Seats.{no_seat, away, seat_at, kept_by, open_by, sweeps, placed, IsSeated, IsCounted}
+use Rattle.ledger.specs.Seats.{no_seat, away, seat_at, kept_by, open_by, sweeps, at_its_place, IsSeated, IsCounted}
 use Rattle.ledger.proofs.Listed.{first_is, filter_same, placed_picked, first_gone, picked_up, picked_holds}
 use Rattle.ledger.proofs.Opened.{numbers_push}
 
@@ -122,7 +122,7 @@ module _ (seats : List Seat) (held : ℕ) (to_sweep : List ℕ) (room : ℕ) (i 
       let o = open_seat s was is es eg in let f : true ≡ false = sym h ∙ ap (sweeps seats) e ∙ o.2 in cc
 
   pub shut_counted : (s more : ℕ) (was v : Seat) (now : List ℕ) → 0 < s → s ≤ length seats → was ≡ seat_at seats s
-      → was.shut ≡ false → was.gone ≡ false → v.shut ≡ true → v.gone ≡ false → now ≡ placed s to_sweep
+      → was.shut ≡ false → was.gone ≡ false → v.shut ≡ true → v.gone ≡ false → now ≡ at_its_place s to_sweep
       → length now ≡ length to_sweep + 1 → room ≤ more
       → IsCounted (slice_set seats (s - 1) v) (held - 1) now more
   shut_counted s more was v now from to is es eg vs vg en ln r =
@@ -144,7 +144,7 @@ module _ (seats : List Seat) (held : ℕ) (to_sweep : List ℕ) (room : ℕ) (i 
       record {
         held = (omega arith);
         listed =
-            en ∙ ap (placed s) i.listed ∙ placed_picked (sweeps seats) (sweeps (slice_set seats (s - 1) v)) s 1
+            en ∙ ap (at_its_place s) i.listed ∙ placed_picked (sweeps seats) (sweeps (slice_set seats (s - 1) v)) s 1
             (length seats) o.2 on agree from (omega arith)
             ∙ ap (λ (n : ℕ). filter (sweeps (slice_set seats (s - 1) v)) (numbers 1 n)) (sym len);
         open_ = (omega arith);

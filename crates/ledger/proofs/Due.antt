@@ -8,13 +8,13 @@ use Rattle.std.specs.Prelude.{IfSome}
 use Rattle.std.specs.List.{IsDistinct, AllByRecursion, list_any}
 use Rattle.std.specs.Map.{keys_of}
 use Rattle.chronicle.specs.History.{Rec, sessions, shut}
-use Rattle.chronicle.specs.Quiet.{PING_AFTER, LATE_AFTER, was_before, quiet_since, was_pinged, is_pinged, is_late}
+use Rattle.chronicle.specs.Idle.{PING_AFTER, LATE_AFTER, was_before, idle_since, was_pinged, is_pinged, is_late}
 use Rattle.roster.specs.LookBack.{numbers}
 use Rattle.ledger.specs.declared.last_heard.Since.{Since}
 use Rattle.ledger.specs.declared.seat.Seat.{Seat}
 use Rattle.ledger.specs.Ledger.{is_here, first, to_ping, late}
 use Rattle.ledger.specs.Seats.{IsSeat, IsThere, seat_at, hears}
-use Rattle.ledger.specs.LastHeard.{since_at, IsSince, AreSince, is_before, is_due, is_overdue, picked, lower_of}
+use Rattle.ledger.specs.LastHeard.{since_at, IsSince, AreSince, is_before, is_due, is_overdue, who_pass, lower_of}
 use Rattle.ledger.specs.LastHeard.{lowest}
 use Rattle.ledger.proofs.Begins.{hears_not}
 
@@ -30,12 +30,12 @@ one t s true = let E : List ℕ = [] in
 one t s false = let E : List ℕ = [] in elim (s == t) as (λ c. E ≡ cond c E E) [ true ↦ refl | false ↦ refl ]
 
 more_of : (f : ℕ × Since → Bool) (t : ℕ) (e : ℕ × Since) (es : List (ℕ × Since)) → filter (λ u. u == t)
-    (picked f (e ∷ es)) ≡ filter (λ u. u == t) (picked f es) ++ cond (e.0 == t) (cond (f e) (e.0 ∷ []) []) []
-more_of f t e es = filter-append (λ u. u == t) (picked f es) (cond (f e) (e.0 ∷ []) []) ∙ ap
-    (λ ns. filter (λ u. u == t) (picked f es) ++ ns) (one t e.0 (f e))
+    (who_pass f (e ∷ es)) ≡ filter (λ u. u == t) (who_pass f es) ++ cond (e.0 == t) (cond (f e) (e.0 ∷ []) []) []
+more_of f t e es = filter-append (λ u. u == t) (who_pass f es) (cond (f e) (e.0 ∷ []) []) ∙ ap
+    (λ ns. filter (λ u. u == t) (who_pass f es) ++ ns) (one t e.0 (f e))
 
 none_of : (f : ℕ × Since → Bool) (t : ℕ) (es : List (ℕ × Since))
-    → AllByRecursion (λ (k : ℕ). nat_eq t k ≡ false) (keys_of es) → filter (λ u. u == t) (picked f es) ≡ []
+    → AllByRecursion (λ (k : ℕ). nat_eq t k ≡ false) (keys_of es) → filter (λ u. u == t) (who_pass f es) ≡ []
 none_of f t [] apart = refl
 none_of f t (e ∷ es) apart =
     let ne : e.0 ≢ t = λ is. absurd (let g : true ≡ false = sym (eq-eqb t e.0 (sym is)) ∙ apart.0 in cc) in
@@ -47,13 +47,13 @@ append-none [] = refl
 append-none (n ∷ ns) = ap (λ ms. n ∷ ms) (append-none ns)
 
 pub once_of : (f : ℕ × Since → Bool) (t : ℕ) (es : List (ℕ × Since)) → IsDistinct nat_eq (keys_of es)
-    → filter (λ u. u == t) (picked f es) ≡ cond (passes f t (since_at es t)) (t ∷ []) []
+    → filter (λ u. u == t) (who_pass f es) ≡ cond (passes f t (since_at es t)) (t ∷ []) []
 unfolding IsDistinct
 once_of f t [] i = refl
 once_of f t (e ∷ es) i = elim (eqb_tells t e.0) [
   | inl same ↦
       let here : e.0 == t ≡ true = eq-eqb e.0 t (sym same.1) in
-      let none : filter (λ u. u == t) (picked f es) ≡ [] = none_of f t es
+      let none : filter (λ u. u == t) (who_pass f es) ≡ [] = none_of f t es
       (subst (λ (k : ℕ). AllByRecursion (λ (j : ℕ). nat_eq k j ≡ false) (keys_of es)) (sym same.1) i.0) in
       more_of f t e es ∙ ap (λ ns. ns ++ cond (e.0 == t) (cond (f e) (e.0 ∷ []) []) []) none ∙ ap
       (λ b. cond b (cond (f e) (e.0 ∷ []) []) []) here
@@ -61,8 +61,8 @@ once_of f t (e ∷ es) i = elim (eqb_tells t e.0) [
       ∙ sym (ap (λ b. cond (passes f t (cond b (Some e.1) (since_at es t))) (t ∷ []) []) same.0)
   | inr other ↦
       let away : e.0 == t ≡ false = ne_eqb e.0 t (λ is. other.1 (sym is)) in
-      more_of f t e es ∙ ap (λ b. filter (λ u. u == t) (picked f es) ++ cond b (cond (f e) (e.0 ∷ []) []) []) away
-      ∙ append-none (filter (λ u. u == t) (picked f es)) ∙ once_of f t es i.1
+      more_of f t e es ∙ ap (λ b. filter (λ u. u == t) (who_pass f es) ++ cond b (cond (f e) (e.0 ∷ []) []) []) away
+      ∙ append-none (filter (λ u. u == t) (who_pass f es)) ∙ once_of f t es i.1
       ∙ sym (ap (λ b. cond (passes f t (cond b (Some e.1) (since_at es t))) (t ∷ []) []) other.0)
 ]
 
@@ -78,9 +78,9 @@ any_left t (n ∷ ns) = elim (n == t) as (λ b. (b || list_any (λ u. u == t) ns
     (cond b (n ∷ filter (λ u. u == t) ns) (filter (λ u. u == t) ns))) [ true ↦ refl | false ↦ any_left t ns ]
 
 pub any_of : (f : ℕ × Since → Bool) (t : ℕ) (es : List (ℕ × Since)) → IsDistinct nat_eq (keys_of es)
-    → list_any (λ u. u == t) (picked f es) ≡ passes f t (since_at es t)
+    → list_any (λ u. u == t) (who_pass f es) ≡ passes f t (since_at es t)
 any_of f t es i =
-    any_left t (picked f es) ∙ ap is_some_of (once_of f t es i) ∙ elim (passes f t (since_at es t)) as
+    any_left t (who_pass f es) ∙ ap is_some_of (once_of f t es i) ∙ elim (passes f t (since_at es t)) as
     (λ b. is_some_of (cond b (t ∷ []) []) ≡ b) [ true ↦ refl | false ↦ refl ]
 
 -- nobody stands among none
@@ -134,13 +134,13 @@ module _ {O : Type 0} (xs : List (ℕ × Since)) (h : List Rec) (seats : List Se
       by : (o : Option Since) → since_at xs t ≡ o → IfSome o (λ x. IsThere boxes t × IsSince x h t)
           → passes (is_due seats moment) t o ≡ is_pinged h t moment
       by None e r = sym (ap (λ b. b && not (was_pinged h t))
-          (shut_not t (was_before (quiet_since h t) PING_AFTER moment) (there_of t None r e refl from to)))
+          (shut_not t (was_before (idle_since h t) PING_AFTER moment) (there_of t None r e refl from to)))
       by (Some x) e r =
           ap (λ b. is_before x PING_AFTER moment && (b && not x.pinged)) (hears_is t from to)
           ∙ due_by (is_before x PING_AFTER moment) (not (shut h t)) x.pinged
           ∙ ap (λ (since : Option ℤ). (not (shut h t) && was_before since PING_AFTER moment) && not x.pinged)
           (sym r.1.moment)
-          ∙ ap (λ b. (not (shut h t) && was_before (quiet_since h t) PING_AFTER moment) && not b) (sym r.1.pinged)
+          ∙ ap (λ b. (not (shut h t) && was_before (idle_since h t) PING_AFTER moment) && not b) (sym r.1.pinged)
 
   pub late_is : (t : ℕ) → 0 < t → t ≤ length boxes → passes (is_overdue seats moment) t (since_at xs t)
       ≡ is_late h t moment
@@ -149,7 +149,7 @@ module _ {O : Type 0} (xs : List (ℕ × Since)) (h : List Rec) (seats : List Se
       by : (o : Option Since) → since_at xs t ≡ o → IfSome o (λ x. IsThere boxes t × IsSince x h t)
           → passes (is_overdue seats moment) t o ≡ is_late h t moment
       by None e r = sym
-          (shut_not t (was_before (quiet_since h t) LATE_AFTER moment) (there_of t None r e refl from to))
+          (shut_not t (was_before (idle_since h t) LATE_AFTER moment) (there_of t None r e refl from to))
       by (Some x) e r =
           ap (λ b. is_before x LATE_AFTER moment && b) (hears_is t from to)
           ∙ late_by (is_before x LATE_AFTER moment) (not (shut h t))
@@ -283,9 +283,9 @@ passes_some f t None e = absurd (let g : false ≡ true = e in cc)
 passes_some f t (Some x) e = refl
 
 pub picked_here : (f : ℕ × Since → Bool) (es : List (ℕ × Since)) (i : ℕ) → IsDistinct nat_eq (keys_of es)
-    → i < length (picked f es) → is_some (since_at es (slice_index_or (picked f es) i 0)) ≡ true
-picked_here f es i once l = let t = slice_index_or (picked f es) i 0 in
-    passes_some f t (since_at es t) (sym (any_of f t es once) ∙ at_any (picked f es) i l)
+    → i < length (who_pass f es) → is_some (since_at es (slice_index_or (who_pass f es) i 0)) ≡ true
+picked_here f es i once l = let t = slice_index_or (who_pass f es) i 0 in
+    passes_some f t (since_at es t) (sym (any_of f t es once) ∙ at_any (who_pass f es) i l)
 
 -- ---- what a tick and `late` find
 
@@ -295,37 +295,38 @@ module _ {O : Type 0} (xs : List (ℕ × Since)) (h : List Rec) (seats : List Se
     (places : length seats ≡ length boxes)
     (reaped : (t : ℕ) → 0 < t → t ≤ length boxes → is_here boxes t ≡ false → shut h t ≡ true)
     (once : IsDistinct nat_eq (keys_of xs)) (all : sessions h ≡ length boxes) where
-  pub due_any : (t : ℕ) → 0 < t → t ≤ length boxes → list_any (λ u. u == t) (picked (is_due seats moment) xs)
+  pub due_any : (t : ℕ) → 0 < t → t ≤ length boxes → list_any (λ u. u == t) (who_pass (is_due seats moment) xs)
       ≡ is_pinged h t moment
   due_any t from to = any_of (is_due seats moment) t xs once
       ∙ due_is xs h seats boxes moment i seat places reaped t from to
 
-  pub due_once : (t : ℕ) → 0 < t → t ≤ length boxes → filter (λ u. u == t) (picked (is_due seats moment) xs)
+  pub due_once : (t : ℕ) → 0 < t → t ≤ length boxes → filter (λ u. u == t) (who_pass (is_due seats moment) xs)
       ≡ cond (is_pinged h t moment) (t ∷ []) []
   due_once t from to = once_of (is_due seats moment) t xs once ∙ ap
       (λ b. cond b (t ∷ []) []) (due_is xs h seats boxes moment i seat places reaped t from to)
 
-  inside : (f : ℕ × Since → Bool) (t : ℕ) → list_any (λ u. u == t) (picked f xs) ≡ true → (0 < t) × (t ≤ length boxes)
+  inside : (f : ℕ × Since → Bool) (t : ℕ) → list_any (λ u. u == t) (who_pass f xs) ≡ true → (0 < t)
+      × (t ≤ length boxes)
   inside f t e = within xs h seats boxes moment i seat places reaped f t (sym (any_of f t xs once) ∙ e)
 
   -- nobody is due where nobody is to be pinged
-  pub due_none : picked (is_due seats moment) xs ≡ [] → to_ping h moment ≡ []
+  pub due_none : who_pass (is_due seats moment) xs ≡ [] → to_ping h moment ≡ []
   due_none e = filter_none (λ t. is_pinged h t moment) 1 (sessions h)
       (λ t a b. sym (due_any t a (omega arith)) ∙ ap (list_any (λ u. u == t)) e)
 
-  pub due_some : picked (is_due seats moment) xs ≢ [] → to_ping h moment ≢ []
-  due_some some none = some (none_among (picked (is_due seats moment) xs)
-      (λ t. off t (list_any (λ u. u == t) (picked (is_due seats moment) xs)) refl))
+  pub due_some : who_pass (is_due seats moment) xs ≢ [] → to_ping h moment ≢ []
+  due_some some none = some (none_among (who_pass (is_due seats moment) xs)
+      (λ t. off t (list_any (λ u. u == t) (who_pass (is_due seats moment) xs)) refl))
     where
-      off : (t : ℕ) (b : Bool) → list_any (λ u. u == t) (picked (is_due seats moment) xs) ≡ b
-          → list_any (λ u. u == t) (picked (is_due seats moment) xs) ≡ false
+      off : (t : ℕ) (b : Bool) → list_any (λ u. u == t) (who_pass (is_due seats moment) xs) ≡ b
+          → list_any (λ u. u == t) (who_pass (is_due seats moment) xs) ≡ false
       off t false e = e
       off t true e = absurd (let at = inside (is_due seats moment) t e in let to = at.1 in filter_some
           (λ u. is_pinged h u moment) 1 (sessions h) t at.0 (omega arith) (sym (due_any t at.0 at.1) ∙ e) none)
 
-  pub late_found : lowest (picked (is_overdue seats moment) xs) ≡ late h moment
+  pub late_found : lowest (who_pass (is_overdue seats moment) xs) ≡ late h moment
   late_found =
-      lowest_first (λ t. is_late h t moment) (picked (is_overdue seats moment) xs) (sessions h)
+      lowest_first (λ t. is_late h t moment) (who_pass (is_overdue seats moment) xs) (sessions h)
       (λ t a b. any_of (is_overdue seats moment) t xs once
       ∙ late_is xs h seats boxes moment i seat places reaped t a (omega arith))
       (λ t e. let at = inside (is_overdue seats moment) t e in (at.0, (let to = at.1 in omega arith)))

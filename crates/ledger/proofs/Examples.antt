@@ -5,7 +5,7 @@ use Rattle.base64.proofs.OnLiterals.{base64_on_literals}
 use Rattle.sha2.specs.Sha256.{sha256, first_words, schedule, rounds, compress, hash_after, digest_bytes}
 use Rattle.line_grammar.specs.declared.splitter.Piece.TheVariants.{Line}
 use Rattle.line_grammar.specs.Reading.{reading, parameters, with_command}
-use Rattle.line_grammar.specs.Spelling.{untagged}
+use Rattle.line_grammar.specs.Spelling.{bare_line}
 use Rattle.casemapping.specs.Fold.{fold_of}
 use Rattle.casemapping.specs.Names.{nick_shape, channel_shape}
 use Rattle.chronicle.specs.declared.record.Kind.{Kind}
@@ -14,7 +14,7 @@ use Rattle.chronicle.specs.declared.why.Why.TheVariants.{Quit}
 use Rattle.chronicle.specs.History.{Rec, is_quit}
 use Rattle.numerics.specs.Outgoing.{octets, room}
 use Rattle.numerics.specs.Numerics.{numeric, row_line}
-use Rattle.numerics.specs.Cut.{cut}
+use Rattle.numerics.specs.Cut.{cut_lines}
 use Rattle.numerics.specs.CivilTime.{falls_in, civil_date, time_text}
 use Rattle.registration.specs.declared.accounts.Account.{Account}
 use Rattle.registration.specs.declared.settings.Settings.{Settings}
@@ -23,13 +23,13 @@ use Rattle.registration.specs.Caps.{after_request}
 use Rattle.registration.specs.Enrol.{nick_answer, sasl_answer}
 use Rattle.registration.specs.Plain.{credentials_of}
 use Rattle.commands.specs.Asked.{asked_of}
-use Rattle.commands.specs.Names.{named}
+use Rattle.commands.specs.Names.{known_name}
 use Rattle.commands.specs.Commands.{command_by, command_of}
 use Rattle.casemapping.specs.Fold.{is_same}
 use Rattle.roster.specs.LookBack.{members}
 use Rattle.channel_commands.specs.Found.{channel_of}
-use Rattle.drafts.specs.Hearers.{shown}
-use Rattle.channel_commands.specs.Joining.{bar_of, entered, introduced}
+use Rattle.transactions.specs.Hearers.{shows_to}
+use Rattle.channel_commands.specs.Joining.{bar_of, arrives, arrival_shown}
 use Rattle.query_commands.specs.Names.{member_name}
 use Rattle.query_commands.specs.Visible.{members_for}
 use Rattle.std.specs.Str.{is_utf8, chars}
@@ -38,7 +38,7 @@ use Rattle.message_tags.specs.Tags.{counting_tags, key_shape, last_value}
 use Rattle.message_tags.specs.ClientOnly.{client_only_data}
 use Rattle.labels_batches.specs.Rendered.{spelled_line}
 use Rattle.deeds.specs.Deeds.{facts}
-use Rattle.drafts.specs.Lines.{prefix}
+use Rattle.transactions.specs.Lines.{prefix}
 use Rattle.deliveries.specs.declared.delivery.Delivery.{Delivery}
 use Rattle.deliveries.specs.declared.delivery.Delivery.TheVariants.{Lines, Last}
 use Rattle.deliveries.specs.Owed.{owed}
@@ -91,8 +91,9 @@ starts = codes "NICK al" ∷ codes "USER a 0 * :Al" ∷ []
 -- ---- a session registers
 
 registers : owes [] starts ≡ Lines 3 welcome ∷ []
-unfolding reading parameters with_command asked_of command_of command_by named nick_answer fold_of nick_shape is_same
-    is_quit prefix octets untagged numeric row_line cut time_text civil_date falls_in spelled_line
+unfolding reading parameters with_command asked_of command_of command_by known_name nick_answer fold_of nick_shape
+    is_same
+    is_quit prefix octets bare_line numeric row_line cut_lines time_text civil_date falls_in spelled_line
 registers = refl
 
 -- before it is registered it may not join; a message of too few parameters is told so first, and an unknown command
@@ -102,7 +103,8 @@ is_refused : owes [] (codes "JOIN #a" ∷ codes "JOIN" ∷ codes "FOO" ∷ codes
     ∷ Lines 3 (codes ":irc.example 461 * JOIN :Not enough parameters" ++ crlf)
     ∷ Lines 4 (codes ":irc.example 421 * FOO :Unknown command" ++ crlf)
     ∷ Lines 5 (codes ":irc.example 411 * :No recipient given (TAGMSG)" ++ crlf) ∷ []
-unfolding reading parameters with_command asked_of command_of command_by named fold_of is_quit prefix octets untagged
+unfolding reading parameters with_command asked_of command_of command_by known_name fold_of is_quit prefix octets
+    bare_line
     numeric row_line spelled_line
 is_refused = refl
 
@@ -123,21 +125,21 @@ failed = codes ":irc.example 904 * :SASL authentication failed" ++ crlf
 logs_in : owes accounts (asks ++ codes "AUTHENTICATE AGFsAGJj" ∷ [])
     ≡ asked ++ Lines 4 (codes ":irc.example 900 * *!*@h1 al :You are now logged in as al" ++ crlf
     ++ codes ":irc.example 903 * :SASL authentication successful" ++ crlf) ∷ []
-unfolding reading parameters with_command asked_of command_of command_by named after_request sasl_answer fold_of
+unfolding reading parameters with_command asked_of command_of command_by known_name after_request sasl_answer fold_of
     credentials_of base64_on_literals logged_in first_words schedule rounds compress hash_after digest_bytes sha256
-    is_quit prefix octets untagged numeric row_line spelled_line is_same
+    is_quit prefix octets bare_line numeric row_line spelled_line is_same
 logs_in = refl
 
 wrong_password : owes accounts (asks ++ codes "AUTHENTICATE AGFsAGJk" ∷ []) ≡ asked ++ Lines 4 failed ∷ []
-unfolding reading parameters with_command asked_of command_of command_by named after_request sasl_answer fold_of
+unfolding reading parameters with_command asked_of command_of command_by known_name after_request sasl_answer fold_of
     credentials_of base64_on_literals logged_in first_words schedule rounds compress hash_after digest_bytes sha256
-    is_quit prefix octets untagged numeric row_line spelled_line is_same
+    is_quit prefix octets bare_line numeric row_line spelled_line is_same
 wrong_password = refl
 
 ends_it : owes accounts (asks ++ codes "AUTHENTICATE *" ∷ [])
     ≡ asked ++ Lines 4 (codes ":irc.example 906 * :SASL authentication aborted" ++ crlf) ∷ []
-unfolding reading parameters with_command asked_of command_of command_by named after_request sasl_answer fold_of
-    is_quit prefix octets untagged numeric row_line spelled_line is_same
+unfolding reading parameters with_command asked_of command_of command_by known_name after_request sasl_answer fold_of
+    is_quit prefix octets bare_line numeric row_line spelled_line is_same
 ends_it = refl
 
 abbrev piece : List ℕ
@@ -145,21 +147,22 @@ piece = codes "AUTHENTICATE " ++ replicate 400 65
 
 -- a piece of 400 octets waits for another
 pieces : owes accounts (asks ++ piece ∷ codes "AUTHENTICATE +" ∷ []) ≡ asked ++ Lines 5 failed ∷ []
-unfolding reading parameters with_command asked_of command_of command_by named after_request sasl_answer fold_of
-    credentials_of base64_on_literals is_quit prefix octets untagged numeric row_line spelled_line is_same
+unfolding reading parameters with_command asked_of command_of command_by known_name after_request sasl_answer fold_of
+    credentials_of base64_on_literals is_quit prefix octets bare_line numeric row_line spelled_line is_same
 pieces = refl
 
 too_many : owes accounts (asks ++ piece ∷ piece ∷ piece ∷ codes "AUTHENTICATE A" ∷ [])
     ≡ asked ++ Lines 7 (codes ":irc.example 905 * :SASL message too long" ++ crlf) ∷ []
-unfolding reading parameters with_command asked_of command_of command_by named after_request sasl_answer fold_of
-    is_quit prefix octets untagged numeric row_line spelled_line is_same
+unfolding reading parameters with_command asked_of command_of command_by known_name after_request sasl_answer fold_of
+    is_quit prefix octets bare_line numeric row_line spelled_line is_same
 too_many = refl
 
 -- registration waits for the end of the negotiation, and ends an exchange
 within_one : owes accounts (asks ++ starts ++ codes "CAP END" ∷ [])
     ≡ asked ++ Lines 6 (codes ":irc.example 906 al :SASL authentication aborted" ++ crlf ++ welcome) ∷ []
-unfolding reading parameters with_command asked_of command_of command_by named after_request nick_answer sasl_answer
-    fold_of nick_shape is_same is_quit prefix octets untagged numeric row_line cut time_text civil_date falls_in
+unfolding reading parameters with_command asked_of command_of command_by known_name after_request nick_answer
+    sasl_answer
+    fold_of nick_shape is_same is_quit prefix octets bare_line numeric row_line cut_lines time_text civil_date falls_in
     spelled_line
 within_one = refl
 
@@ -178,9 +181,10 @@ story = Gone 1 ∷ says 1 3 (codes "NICK BO" ∷ codes "NICK alf" ∷ codes "QUI
     (says 2 3 (codes "PRIVMSG #a :hi" ∷ []) meets)
 
 members_then : members (facts (server []) (records meets)) (codes "#a") ≡ 1 ∷ 2 ∷ []
-unfolding reading parameters with_command asked_of command_of command_by named nick_answer fold_of nick_shape
-    channel_shape is_same is_quit cut channel_of bar_of entered introduced shown member_name members_for room numeric
-    row_line untagged prefix octets spelled_line counting_tags key_shape client_only_data
+unfolding reading parameters with_command asked_of command_of command_by known_name nick_answer fold_of nick_shape
+    channel_shape is_same is_quit cut_lines channel_of bar_of arrives arrival_shown shows_to member_name members_for
+    room numeric
+    row_line bare_line prefix octets spelled_line counting_tags key_shape client_only_data
 members_then = refl
 
 owed_to_who_leaves : owed (server []) (records story) 1
@@ -188,18 +192,22 @@ owed_to_who_leaves : owed (server []) (records story) 1
     ∷ Lines 8 (codes ":bo!b@h2 JOIN #a" ++ crlf) ∷ Lines 9 (codes ":bo!b@h2 PRIVMSG #a :hi" ++ crlf)
     ∷ Lines 10 (codes ":irc.example 433 al BO :Nickname is already in use" ++ crlf)
     ∷ Lines 11 (codes ":al!a@h1 NICK alf" ++ crlf) ∷ Last 12 Quit ∷ []
-unfolding reading parameters with_command asked_of command_of command_by named nick_answer fold_of nick_shape
-    channel_shape is_same is_quit prefix octets untagged numeric row_line cut time_text civil_date falls_in channel_of
-    bar_of entered introduced shown member_name members_for room spelled_line counting_tags key_shape client_only_data
+unfolding reading parameters with_command asked_of command_of command_by known_name nick_answer fold_of nick_shape
+    channel_shape is_same is_quit prefix octets bare_line numeric row_line cut_lines time_text civil_date
+    falls_in channel_of
+    bar_of arrives arrival_shown shows_to member_name members_for room spelled_line counting_tags key_shape
+    client_only_data
 owed_to_who_leaves = refl
 
 shown_to_who_stays : owed (server []) (records story) 2
     ≡ Lines 7 (greets (codes "bo") (codes "!b@h2"))
     ∷ Lines 8 (codes ":bo!b@h2 JOIN #a" ++ crlf ++ names (codes "bo") (codes "@al bo"))
     ∷ Lines 11 (codes ":al!a@h1 NICK alf" ++ crlf) ∷ Lines 13 (codes ":alf!a@h1 QUIT :bye" ++ crlf) ∷ []
-unfolding reading parameters with_command asked_of command_of command_by named nick_answer fold_of nick_shape
-    channel_shape is_same is_quit prefix octets untagged numeric row_line cut time_text civil_date falls_in channel_of
-    bar_of entered introduced shown member_name members_for room spelled_line counting_tags key_shape client_only_data
+unfolding reading parameters with_command asked_of command_of command_by known_name nick_answer fold_of nick_shape
+    channel_shape is_same is_quit prefix octets bare_line numeric row_line cut_lines time_text civil_date
+    falls_in channel_of
+    bar_of arrives arrival_shown shows_to member_name members_for room spelled_line counting_tags key_shape
+    client_only_data
 shown_to_who_stays = refl
 
 -- a line with a label is answered with it
@@ -209,6 +217,7 @@ labelled :
     ≡ Lines 2 (codes ":irc.example CAP * ACK :batch labeled-response server-time" ++ crlf)
     ∷ Lines 3 (codes "@label=7;time=1970-01-01T00:00:00.000Z :irc.example PONG irc.example x" ++ crlf)
     ∷ Lines 4 (codes "@label=8;time=1970-01-01T00:00:00.000Z :irc.example ACK" ++ crlf) ∷ Last 5 Quit ∷ []
-unfolding reading parameters with_command asked_of command_of command_by named after_request is_quit octets untagged
+unfolding reading parameters with_command asked_of command_of command_by known_name after_request is_quit octets
+    bare_line
     time_text civil_date falls_in spelled_line counting_tags key_shape last_value is_utf8 chars encode
 labelled = refl

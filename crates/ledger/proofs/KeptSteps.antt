@@ -24,14 +24,15 @@ use Rattle.ledger.specs.Legal.{IsKind, IsLegal}
 use Rattle.ledger.specs.Kept.{IsKept}
 use Rattle.std.specs.Option.{is_some}
 use Rattle.ledger.specs.Seats.{IsSeat, no_seat, away, seat_at}
-use Rattle.ledger.specs.Ledger.{Shown, item_of, MayOpen, box_at, outbox_at, is_here, held, plan_of, IsPlan, IsSound}
+use Rattle.ledger.specs.Ledger.{Shown, item_of, MayOpen, box_at, outbox_at, is_here, kept_total, plan_of, IsPlan}
+use Rattle.ledger.specs.Ledger.{IsSound}
 use Rattle.ledger.proofs.About.{not_shut, not_gone, not_accepted, gone_shut}
 use Rattle.ledger.proofs.Opened.{opened_sound, opened_held}
 use Rattle.ledger.proofs.Sound.{misses_same, misses_other, held_missed, box_same, box_other, here_same}
 use Rattle.ledger.proofs.Sound.{delivered_sound, dropped_sound, finished_sound, taken_sound, reaped_sound}
 use Rattle.ledger.proofs.Begun.{begun_sound}
 
-abbrev pub shown : {O : Type 0} → journal.Shown → Settings → List (Option O) → List Planned → Bool → Shown O
+abbrev pub shown : {O : Type 0} → journal.JournalView → Settings → List (Option O) → List Planned → Bool → Shown O
 shown j g boxes plan busy = record {
   history = j.history;
   limit = j.limit;
@@ -42,7 +43,7 @@ shown j g boxes plan busy = record {
 }
 
 -- what a ledger shows of a journal is of its history and its limit
-pub shown_with : {O : Type 0} (j k : journal.Shown) (h : List Rec) (g : Settings) (boxes : List (Option O))
+pub shown_with : {O : Type 0} (j k : journal.JournalView) (h : List Rec) (g : Settings) (boxes : List (Option O))
     (plan : List Planned) (busy : Bool) → k.history ≡ h → k.limit ≡ j.limit
     → shown k g boxes plan busy
     ≡ record { history = h; limit = j.limit; settings = g; outboxes = boxes; plan = plan; busy = busy }
@@ -76,7 +77,7 @@ gone-miss : (h : List Rec) (s t : ℕ) → gone (miss h s) t ≡ gone h t
 gone-miss [] s t = refl
 gone-miss (r ∷ h) s t = refl
 
-held-miss : (h : List Rec) (s : ℕ) → held (miss h s) ≤ held h
+held-miss : (h : List Rec) (s : ℕ) → kept_total (miss h s) ≤ kept_total h
 held-miss [] s = omega arith
 held-miss (r ∷ h) s = held_missed r h s
 
@@ -103,18 +104,18 @@ quiet Ticked t e ne = (refl, refl, refl)
 module _ {O : Type 0} (sent : O → List Item) where
   -- ---- a session is opened
 
-  opened_history : (j k : journal.Shown) (g : Settings) (known more_known : List Deed) (seats : List Seat)
+  opened_history : (j k : journal.JournalView) (g : Settings) (known more_known : List Deed) (seats : List Seat)
       (boxes : List (Option O)) (plan : List Planned) (busy : Bool) (host : List ℕ) (moment : ℤ) (box : O)
       → IsKept sent j g known seats boxes plan busy → MayOpen (shown j g boxes plan busy) moment → sent box ≡ []
       → k.history ≡ fresh_record j.history moment (Opened (sessions j.history + 1) host) ∷ j.history
-      → k.limit ≡ j.limit → held j.history + 2 ≤ k.room
+      → k.limit ≡ j.limit → kept_total j.history + 2 ≤ k.room
       → more_known ≡ deed.Opened (sessions j.history + 1) host ∷ known
       → IsKept sent k g more_known (seats ++ no_seat ∷ []) (boxes ++ Some box ∷ []) plan busy
   opened_history j k g known more_known seats boxes plan busy host moment box i may fresh eh el free ek =
       let h = j.history in
       let n = sessions h + 1 in let r = fresh_record h moment (Opened n host) in let all = boxes ++ Some box ∷ [] in
-      let one_more : length (told_of.opened known ++ n ∷ [])
-      ≡ length (told_of.opened known) + 1 = length-append (told_of.opened known) (n ∷ []) in
+      let one_more : length (told_of.opened_in known ++ n ∷ [])
+      ≡ length (told_of.opened_in known) + 1 = length-append (told_of.opened_in known) (n ∷ []) in
       let more : length (seats ++ no_seat ∷ []) ≡ length seats + 1 = length-append seats (no_seat ∷ []) in
       let new : IsSound sent (shown k g all plan busy) =
       subst (IsSound sent) (sym (shown_with j k (r ∷ h) g all plan busy eh el))
@@ -158,20 +159,22 @@ module _ {O : Type 0} (sent : O → List Item) where
         facts = ek ∙ ap (λ (fs : List Deed). deed.Opened n host ∷ fs) i.facts ∙ sym (ap (facts g) eh);
         each_seat = λ t from to. subst (λ (x : List Rec). IsSeat (seat_at (seats ++ no_seat ∷ []) t)
             (is_here all t) x t) (sym eh) (seat t from to);
-        opened = ap (λ (fs : List Deed). length (told_of.opened fs)) ek ∙ one_more ∙ ap
+        opened = ap (λ (fs : List Deed). length (told_of.opened_in fs)) ek ∙ one_more ∙ ap
             (λ (m : ℕ). m + 1) i.opened ∙ sym (length-append boxes (Some box ∷ []));
         places = more ∙ ap (λ (m : ℕ). m + 1) i.places ∙ sym (length-append boxes (Some box ∷ []));
         left = let e = i.sound.idle may.idle in let z : length plan ≡ 0 = ap length e in
             let goal : length plan ≤ k.left = omega arith in goal;
-        room = let two = opened_held h n host moment in rw eh (let goal : held (r ∷ h) ≤ k.room = omega arith in goal);
+        room = let two = opened_held h n host moment in
+            rw eh (let goal : kept_total (r ∷ h) ≤ k.room = omega arith in goal);
       }
 
-  pub opened_kept : (j k : journal.Shown) (g : Settings) (known more_known : List Deed) (seats places : List Seat)
+  pub opened_kept : (j k : journal.JournalView) (g : Settings) (known more_known : List Deed)
+      (seats places : List Seat)
       (boxes more : List (Option O)) (plan : List Planned) (busy : Bool) (host told : List ℕ) (moment : ℤ)
       (session : ℕ) (box : O)
       → IsKept sent j g known seats boxes plan busy → MayOpen (shown j g boxes plan busy) moment → sent box ≡ []
       → session ≡ length seats + 1 → told ≡ host → k.history ≡ fresh_record j.history moment (Opened session told)
-      ∷ j.history → k.limit ≡ j.limit → held j.history + 2 ≤ k.room
+      ∷ j.history → k.limit ≡ j.limit → kept_total j.history + 2 ≤ k.room
       → more_known ≡ deed.Opened session host ∷ known → places ≡ seats ++ no_seat ∷ [] → more ≡ boxes ++ Some box ∷ []
       → IsKept sent k g more_known places more plan busy
   opened_kept j k g known more_known seats places boxes more plan busy host told moment session box i may fresh es
@@ -187,7 +190,7 @@ module _ {O : Type 0} (sent : O → List Item) where
 
   -- ---- a delivery is put, or missed
 
-  pub delivered_kept : (j : journal.Shown) (g : Settings) (known : List Deed) (seats : List Seat)
+  pub delivered_kept : (j : journal.JournalView) (g : Settings) (known : List Deed) (seats : List Seat)
       (boxes more : List (Option O)) (plan qs : List Planned) (busy : Bool) (p : Planned) (a b : O)
       → IsKept sent j g known seats boxes plan busy → plan ≡ p ∷ qs → box_at boxes p.session ≡ Some a → sent b
       ≡ sent a ++ item_of (shown j g boxes plan busy) p ∷ [] → more ≡ slice_set boxes (p.session - 1) (Some b)
@@ -215,7 +218,7 @@ module _ {O : Type 0} (sent : O → List Item) where
         room = i.room;
       })
 
-  pub dropped_kept : (j k : journal.Shown) (g : Settings) (known : List Deed) (seats places : List Seat)
+  pub dropped_kept : (j k : journal.JournalView) (g : Settings) (known : List Deed) (seats places : List Seat)
       (boxes : List (Option O)) (plan qs : List Planned) (busy : Bool) (p : Planned)
       → IsKept sent j g known seats boxes plan busy → plan ≡ p ∷ qs
       → places ≡ slice_set seats (p.session - 1) (record {
@@ -275,12 +278,12 @@ module _ {O : Type 0} (sent : O → List Item) where
         places = len ∙ i.places;
         left = omega arith;
         room = let less = held-miss h s in let same = miss_.room in let was = i.room in
-            rw miss_.history (let goal : held (miss h s) ≤ k.room = omega arith in goal);
+            rw miss_.history (let goal : kept_total (miss h s) ≤ k.room = omega arith in goal);
       })
 
   -- ---- the plan is given back
 
-  pub finished_kept : (j : journal.Shown) (g : Settings) (known : List Deed) (seats : List Seat)
+  pub finished_kept : (j : journal.JournalView) (g : Settings) (known : List Deed) (seats : List Seat)
       (boxes : List (Option O)) (plan : List Planned) (busy : Bool)
       → IsKept sent j g known seats boxes plan busy → plan ≡ [] → IsKept sent j g known seats boxes plan false
   finished_kept j g known seats boxes plan busy i none =
@@ -296,7 +299,7 @@ module _ {O : Type 0} (sent : O → List Item) where
 
   -- ---- a session is given up
 
-  pub reaped_kept : (j : journal.Shown) (g : Settings) (known : List Deed) (seats places : List Seat)
+  pub reaped_kept : (j : journal.JournalView) (g : Settings) (known : List Deed) (seats places : List Seat)
       (boxes more : List (Option O)) (plan : List Planned) (busy : Bool) (s : ℕ)
       → IsKept sent j g known seats boxes plan busy → 0 < s → s ≤ length boxes → gone j.history s ≡ true
       → places ≡ slice_set seats (s - 1) away → more ≡ slice_set boxes (s - 1) None
@@ -346,14 +349,14 @@ module _ {O : Type 0} (sent : O → List Item) where
 
   -- ---- a record is appended, and its deliveries are planned
 
-  pub begun_kept : (j k : journal.Shown) (g : Settings) (known more_known : List Deed) (seats places : List Seat)
+  pub begun_kept : (j k : journal.JournalView) (g : Settings) (known more_known : List Deed) (seats places : List Seat)
       (boxes : List (Option O)) (none plan : List Planned) (kind : Kind) (moment : ℤ) (v : Seat)
       → IsKept sent j g known seats boxes none false → opened_by kind ≡ 0 → 0 < actor kind
       → actor kind ≤ length seats → IsKind j.history kind → IsMomentAfter (last_moment j.history) moment
-      → length j.history + 1 + held (fresh_record j.history moment kind ∷ j.history) ≤ most j.limit
+      → length j.history + 1 + kept_total (fresh_record j.history moment kind ∷ j.history) ≤ most j.limit
       → k.history ≡ fresh_record j.history moment kind ∷ j.history → k.limit ≡ j.limit → length plan ≤ k.left
-      → held (fresh_record j.history moment kind ∷ j.history) ≤ k.room
-      → more_known ≡ after known (deeds g known kind) → told_of.opened more_known ≡ told_of.opened known
+      → kept_total (fresh_record j.history moment kind ∷ j.history) ≤ k.room
+      → more_known ≡ after known (deeds g known kind) → told_of.opened_in more_known ≡ told_of.opened_in known
       → places ≡ slice_set seats (actor kind - 1) v
       → IsSeat v (is_here boxes (actor kind)) (fresh_record j.history moment kind ∷ j.history) (actor kind)
       → plan ≡ plan_of g j.history kind moment (length boxes)
@@ -410,14 +413,14 @@ module _ {O : Type 0} (sent : O → List Item) where
 
   -- ---- nothing is kept yet
 
-  pub empty_kept : (j : journal.Shown) (g : Settings) (known : List Deed) (seats : List Seat)
+  pub empty_kept : (j : journal.JournalView) (g : Settings) (known : List Deed) (seats : List Seat)
       (boxes : List (Option O)) (plan : List Planned)
       → j.history ≡ [] → known ≡ [] → seats ≡ [] → boxes ≡ [] → plan ≡ []
       → IsKept sent j g known seats boxes plan false
   empty_kept j g known seats boxes plan eh ek es eb ep =
       let no_boxes : length boxes ≡ 0 = ap length eb in let no_seats : length seats ≡ 0 = ap length es in
       let no_records : length j.history ≡ 0 = ap length eh in
-      let no_room : held j.history ≡ 0 = ap held eh in let no_plan : length plan ≡ 0 = ap length ep in
+      let no_room : kept_total j.history ≡ 0 = ap kept_total eh in let no_plan : length plan ≡ 0 = ap length ep in
       record {
         sound = record {
           owed = λ t from to here. absurd (omega arith);
@@ -427,11 +430,11 @@ module _ {O : Type 0} (sent : O → List Item) where
           idle = λ e. ep;
           legal = subst (IsLegal g) (sym eh) tt;
           sessions = ap sessions eh ∙ sym no_boxes;
-          room = let goal : length j.history + held j.history ≤ most j.limit = omega arith in goal;
+          room = let goal : length j.history + kept_total j.history ≤ most j.limit = omega arith in goal;
         };
         facts = ek ∙ sym (ap (facts g) eh);
         each_seat = λ t from to. absurd (omega arith);
-        opened = ap (λ (fs : List Deed). length (told_of.opened fs)) ek ∙ sym no_boxes;
+        opened = ap (λ (fs : List Deed). length (told_of.opened_in fs)) ek ∙ sym no_boxes;
         places = no_seats ∙ sym no_boxes;
         left = omega arith;
         room = omega arith;
@@ -439,7 +442,7 @@ module _ {O : Type 0} (sent : O → List Item) where
 
   -- ---- room is made
 
-  pub roomier_kept : (j k : journal.Shown) (g more : Settings) (known facts_ : List Deed) (seats : List Seat)
+  pub roomier_kept : (j k : journal.JournalView) (g more : Settings) (known facts_ : List Deed) (seats : List Seat)
       (boxes : List (Option O)) (plan : List Planned) (busy : Bool)
       → IsKept sent j g known seats boxes plan busy → IsRoomier j k → more ≡ g → facts_ ≡ known
       → IsKept sent k more facts_ seats boxes plan busy
@@ -455,12 +458,12 @@ module _ {O : Type 0} (sent : O → List Item) where
         opened = i.opened;
         places = i.places;
         left = omega arith;
-        room = rw r.history (let goal : held j.history ≤ k.room = omega arith in goal);
+        room = rw r.history (let goal : kept_total j.history ≤ k.room = omega arith in goal);
       }))
 
 -- ---- an item is taken of a ring
 
-pub taken_kept : (j : journal.Shown) (g : Settings) (known : List Deed) (seats : List Seat)
+pub taken_kept : (j : journal.JournalView) (g : Settings) (known : List Deed) (seats : List Seat)
     (boxes more : List (Option Waiting)) (plan : List Planned) (busy : Bool) (s : ℕ)
     → IsKept put_into j g known seats boxes plan busy → 0 < s → s ≤ length boxes
     → is_here boxes s ≡ true → more ≡ slice_set boxes (s - 1) (Some (with_taken (outbox_at boxes s)))

@@ -6,7 +6,7 @@ pub mod Listed
 pub mod Counted
 pub mod Mapped
 pub mod Begun
-pub mod Heards
+pub mod FanOut
 pub mod Ascending
 pub mod Plans
 pub mod Puts
@@ -20,7 +20,7 @@ pub mod Based
 pub mod Owes
 pub mod Unheard
 pub mod Picking
-pub mod Hearing
+pub mod LastActivity
 pub mod Due
 pub mod Pinging
 pub mod Listening

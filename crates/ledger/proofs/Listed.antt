@@ -6,22 +6,22 @@ use Rattle.std.proofs.Common.{nat_lt, cond, List, [], ◌∷◌, ◌++◌, filte
 use Rattle.std.proofs.Common.{slice_get, Some, None, arith, refl, sym, ap, ◌∙◌}
 use Rattle.roster.specs.LookBack.{numbers}
 use Rattle.ledger.specs.Ledger.{first}
-use Rattle.ledger.specs.Seats.{placed}
+use Rattle.ledger.specs.Seats.{at_its_place}
 
 -- ---- a number more
 
-length_placed : (s : ℕ) (x : ℕ) (xs : List ℕ) (b : Bool) → length (placed s xs) ≡ length xs + 1
-    → length (cond b (x ∷ placed s xs) (s ∷ x ∷ xs)) ≡ length (x ∷ xs) + 1
-length_placed s x xs true e = (let g : length (x ∷ placed s xs) ≡ length (x ∷ xs) + 1 = omega arith in g)
+length_placed : (s : ℕ) (x : ℕ) (xs : List ℕ) (b : Bool) → length (at_its_place s xs) ≡ length xs + 1
+    → length (cond b (x ∷ at_its_place s xs) (s ∷ x ∷ xs)) ≡ length (x ∷ xs) + 1
+length_placed s x xs true e = (let g : length (x ∷ at_its_place s xs) ≡ length (x ∷ xs) + 1 = omega arith in g)
 length_placed s x xs false e = (let g : length (s ∷ x ∷ xs) ≡ length (x ∷ xs) + 1 = omega arith in g)
 
-pub placed_more : (s : ℕ) (xs : List ℕ) → length (placed s xs) ≡ length xs + 1
+pub placed_more : (s : ℕ) (xs : List ℕ) → length (at_its_place s xs) ≡ length xs + 1
 placed_more s [] = refl
 placed_more s (x ∷ xs) = length_placed s x xs (nat_lt x s) (placed_more s xs)
 
 -- where it is found to belong, there it is placed
 pub placed_at : (xs : List ℕ) (s i : ℕ) → i ≤ length xs → ((k : ℕ) → k < i → get_or xs k 0 < s)
-    → ((k : ℕ) → i ≤ k → k < length xs → s < get_or xs k 0) → take i xs ++ s ∷ drop i xs ≡ placed s xs
+    → ((k : ℕ) → i ≤ k → k < length xs → s < get_or xs k 0) → take i xs ++ s ∷ drop i xs ≡ at_its_place s xs
 placed_at [] s zero l below above = refl
 placed_at [] s (suc i) l below above = absurd (omega arith)
 placed_at (x ∷ xs) s zero l below above = let a : s < x = above 0 (omega arith) (omega arith) in
@@ -43,16 +43,16 @@ filter_same f g k (suc n) same =
     (same k (omega arith) (omega arith)) ∙ ap (λ xs. cond (g k) (k ∷ xs) xs) rest
 
 -- a lower number is placed first
-placed_low : (f : ℕ → Bool) (s k n : ℕ) → s < k → placed s (filter f (numbers k n)) ≡ s ∷ filter f (numbers k n)
+placed_low : (f : ℕ → Bool) (s k n : ℕ) → s < k → at_its_place s (filter f (numbers k n)) ≡ s ∷ filter f (numbers k n)
 placed_low f s k zero l = refl
 placed_low f s k (suc n) l =
     let off : nat_lt k s ≡ false = grind (arith, nat_tests) in
     let rest = placed_low f s (k + 1) n (omega arith) in let F = filter f (numbers (k + 1) n) in
-    elim (f k) as (λ b. placed s (cond b (k ∷ F) F) ≡ s ∷ cond b (k ∷ F) F) [ true ↦ rw off refl | false ↦ rest ]
+    elim (f k) as (λ b. at_its_place s (cond b (k ∷ F) F) ≡ s ∷ cond b (k ∷ F) F) [ true ↦ rw off refl | false ↦ rest ]
 
 -- the test picks one number more
 pub placed_picked : (f g : ℕ → Bool) (s k n : ℕ) → f s ≡ false → g s ≡ true → ((t : ℕ) → k ≤ t → t ≢ s → f t ≡ g t)
-    → k ≤ s → s < k + n → placed s (filter f (numbers k n)) ≡ filter g (numbers k n)
+    → k ≤ s → s < k + n → at_its_place s (filter f (numbers k n)) ≡ filter g (numbers k n)
 placed_picked f g s k zero off on same a b = absurd (omega arith)
 placed_picked f g s k (suc n) off on same a b =
     elim (cases_eq k s) [
@@ -60,17 +60,17 @@ placed_picked f g s k (suc n) off on same a b =
           let F = filter f (numbers (k + 1) n) in
           let was : f k ≡ false = ap f e ∙ off in let is : g k ≡ true = ap g e ∙ on in
           let rest = filter_same f g (k + 1) n (λ t h l. same t (omega arith) (λ i. let j = i in omega arith)) in
-          ap (λ c. placed s (cond c (k ∷ F) F)) was ∙ placed_low f s (k + 1) n (omega arith) ∙ ap
+          ap (λ c. at_its_place s (cond c (k ∷ F) F)) was ∙ placed_low f s (k + 1) n (omega arith) ∙ ap
           (λ (j : ℕ). j ∷ F) (sym e) ∙ ap (λ xs. k ∷ xs) rest
           ∙ ap (λ c. cond c (k ∷ filter g (numbers (k + 1) n)) (filter g (numbers (k + 1) n))) (sym is)
       | inr ne ↦
           let F = filter f (numbers (k + 1) n) in
           let lower : k < s = omega arith in let less : nat_lt k s ≡ true = grind (arith, nat_tests) in
           let rest = placed_picked f g s (k + 1) n off on (λ t h. same t (omega arith)) (omega arith) (omega arith) in
-          let head : placed s (cond (g k) (k ∷ F) F) ≡ cond (g k) (k ∷ placed s F) (placed s F) =
-          elim (g k) as (λ c. placed s (cond c (k ∷ F) F)
-          ≡ cond c (k ∷ placed s F) (placed s F)) [ true ↦ rw less refl | false ↦ refl ] in
-          ap (λ c. placed s (cond c (k ∷ F) F)) (same k (omega arith) ne) ∙ head ∙ ap
+          let head : at_its_place s (cond (g k) (k ∷ F) F) ≡ cond (g k) (k ∷ at_its_place s F) (at_its_place s F) =
+          elim (g k) as (λ c. at_its_place s (cond c (k ∷ F) F)
+          ≡ cond c (k ∷ at_its_place s F) (at_its_place s F)) [ true ↦ rw less refl | false ↦ refl ] in
+          ap (λ c. at_its_place s (cond c (k ∷ F) F)) (same k (omega arith) ne) ∙ head ∙ ap
           (λ xs. cond (g k) (k ∷ xs) xs) rest
     ]
 

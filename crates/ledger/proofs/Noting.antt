@@ -10,7 +10,7 @@ use Rattle.chronicle.specs.Journal as journal
 use Rattle.registration.specs.declared.settings.Settings.{Settings}
 use Rattle.roster.specs.declared.deed.Deed.{Deed}
 use Rattle.deliveries.specs.declared.item.Item.{Item}
-use Rattle.ledger.specs.declared.base.Counts.{Counts}
+use Rattle.ledger.specs.declared.base.SessionCounts.{SessionCounts}
 use Rattle.ledger.specs.declared.plan.Planned.{Planned}
 use Rattle.ledger.specs.declared.seat.Seat.{Seat}
 use Rattle.ledger.specs.Ledger.{is_here}
@@ -54,19 +54,19 @@ if_some_by P Q (Some x) f p = f x p
 
 -- those at the first n places are counted, and nobody who isn't there
 pub record AreCountedTo {O : Type 0} (sent : O → List Item) (seats : List Seat) (boxes : List (Option O))
-    (heard : List (ℕ × Since)) (kept : List (ℕ × O)) (n : ℕ) (cs : List (ℕ × Counts)) : Type 0 where
+    (heard : List (ℕ × Since)) (kept : List (ℕ × O)) (n : ℕ) (cs : List (ℕ × SessionCounts)) : Type 0 where
   pub each : (t : ℕ) → IfSome (counts_at cs t) (λ c. IsThere boxes t × IsCountBy c sent seats boxes heard t)
   pub first : (i : ℕ) (e : ℕ × O) → i < n → slice_get kept i ≡ Some e → is_some (counts_at cs e.0) ≡ true
 
 module _ {O : Type 0} (sent : O → List Item) (seats : List Seat) (boxes : List (Option O))
     (heard : List (ℕ × Since)) (kept : List (ℕ × O)) where
-  pub counted_none : (cs : List (ℕ × Counts)) → cs ≡ [] → AreCountedTo sent seats boxes heard kept 0 cs
+  pub counted_none : (cs : List (ℕ × SessionCounts)) → cs ≡ [] → AreCountedTo sent seats boxes heard kept 0 cs
   counted_none cs e =
       subst (AreCountedTo sent seats boxes heard kept 0) (sym e)
       (record { each = λ t. tt; first = λ i e l at. absurd (omega arith) })
 
   -- the session at the next place is
-  pub counted_more : (n : ℕ) (cs now : List (ℕ × Counts)) (k : ℕ) (o : O) (c : Counts)
+  pub counted_more : (n : ℕ) (cs now : List (ℕ × SessionCounts)) (k : ℕ) (o : O) (c : SessionCounts)
       → AreCountedTo sent seats boxes heard kept n cs → slice_get kept n ≡ Some (k, o) → IsThere boxes k
       → IsCountBy c sent seats boxes heard k
       → IsChanged cs now k (Some c) → AreCountedTo sent seats boxes heard kept (n + 1) now
@@ -85,7 +85,7 @@ module _ {O : Type 0} (sent : O → List Item) (seats : List Seat) (boxes : List
         ];
       }
     where
-      P : ℕ → Option Counts → Type 0
+      P : ℕ → Option SessionCounts → Type 0
       P q x = IfSome x (λ y. IsThere boxes q × IsCountBy y sent seats boxes heard q)
 
       at_k : counts_at now k ≡ Some c
@@ -95,7 +95,7 @@ module _ {O : Type 0} (sent : O → List Item) (seats : List Seat) (boxes : List
       ]
 
   -- each is
-  pub counted_all : (opened n : ℕ) (cs : List (ℕ × Counts)) → boxes_of kept opened ≡ boxes → length kept ≤ n
+  pub counted_all : (opened n : ℕ) (cs : List (ℕ × SessionCounts)) → boxes_of kept opened ≡ boxes → length kept ≤ n
       → AreCountedTo sent seats boxes heard kept n cs → AreCountsOf sent seats boxes heard cs
   counted_all opened n cs view all was =
       record {
@@ -108,11 +108,11 @@ module _ {O : Type 0} (sent : O → List Item) (seats : List Seat) (boxes : List
 -- ---- by the history
 
 module _ {O : Type 0} (sent : O → List Item) (seats : List Seat) (boxes : List (Option O))
-    (heard : List (ℕ × Since)) (cs : List (ℕ × Counts)) (counts : AreCountsOf sent seats boxes heard cs) where
+    (heard : List (ℕ × Since)) (cs : List (ℕ × SessionCounts)) (counts : AreCountsOf sent seats boxes heard cs) where
   pub counted_there : (t : ℕ) → is_some (counts_at cs t) ≡ true → IsThere boxes t
   counted_there t here = by (counts_at cs t) here (counts.each t)
     where
-      by : (o : Option Counts) → is_some o ≡ true
+      by : (o : Option SessionCounts) → is_some o ≡ true
           → IfSome o (λ c. IsThere boxes t × IsCountBy c sent seats boxes heard t) → IsThere boxes t
       by None e p = absurd (let f : false ≡ true = e in cc)
       by (Some c) e p = p.0
@@ -126,7 +126,7 @@ module _ {O : Type 0} (sent : O → List Item) (seats : List Seat) (boxes : List
       by false true is here = sym is ∙ counts.all t (record { from_1 = from; opened = to; here = here })
       by false false is here = refl
 
-  pub are_counts : (j : journal.Shown) (g : Settings) (known : List Deed) (plan : List Planned) (busy : Bool)
+  pub are_counts : (j : journal.JournalView) (g : Settings) (known : List Deed) (plan : List Planned) (busy : Bool)
       → IsKept sent j g known seats boxes plan busy → busy ≡ false → AreSince heard j.history boxes
       → AreCounts g j.history cs
   are_counts j g known plan busy i idle since_ t =
@@ -137,7 +137,8 @@ module _ {O : Type 0} (sent : O → List Item) (seats : List Seat) (boxes : List
           → IsSince x j.history t
       says o x r e = (subst (λ p. IfSome p (λ y. IsThere boxes t × IsSince y j.history t)) e r).1
 
-      of_history : (c : Counts) → IsThere boxes t → IsCountBy c sent seats boxes heard t → IsCountOf c g j.history t
+      of_history : (c : SessionCounts) → IsThere boxes t → IsCountBy c sent seats boxes heard t
+          → IsCountOf c g j.history t
       of_history c there is =
           let from = there.from_1 in let to = there.opened in let places = i.places in
           record {
@@ -148,7 +149,7 @@ module _ {O : Type 0} (sent : O → List Item) (seats : List Seat) (boxes : List
           }
 
 -- each that is there has a seat
-pub has_seat : {O : Type 0} (sent : O → List Item) (j : journal.Shown) (g : Settings) (known : List Deed)
+pub has_seat : {O : Type 0} (sent : O → List Item) (j : journal.JournalView) (g : Settings) (known : List Deed)
     (seats : List Seat) (boxes : List (Option O)) (plan : List Planned) (busy : Bool)
     → IsKept sent j g known seats boxes plan busy
     → (t : ℕ) → IsThere boxes t → IsSeated seats t × (stands (seat_at seats t) ≡ true)
@@ -160,18 +161,18 @@ has_seat sent j g known seats boxes plan busy i t there =
 -- ---- counts of one session are forgotten
 
 -- what is said of each that is kept is said of those that are left
-pub forgotten_counts : (g : Settings) (h : List Rec) (cs ds : List (ℕ × Counts)) (s : ℕ)
+pub forgotten_counts : (g : Settings) (h : List Rec) (cs ds : List (ℕ × SessionCounts)) (s : ℕ)
     → ((t : ℕ) → counts_at ds t ≡ cond (nat_eq s t) None (counts_at cs t)) → AreCounts g h cs → AreCounts g h ds
 forgotten_counts g h cs ds s same are t =
-    subst (λ (o : Option Counts). IfSome o (λ c. IsCountOf c g h t)) (sym (same t))
+    subst (λ (o : Option SessionCounts). IfSome o (λ c. IsCountOf c g h t)) (sym (same t))
     (but (nat_eq s t) (counts_at cs t) (are t))
   where
-    but : (b : Bool) (o : Option Counts) → IfSome o (λ c. IsCountOf c g h t)
+    but : (b : Bool) (o : Option SessionCounts) → IfSome o (λ c. IsCountOf c g h t)
         → IfSome (cond b None o) (λ c. IsCountOf c g h t)
     but true o it = tt
     but false o it = it
 
 -- and who is left is counted
-pub forgotten_some : (b : Bool) (o : Option Counts) → is_some (cond b None o) ≡ cond b false (is_some o)
+pub forgotten_some : (b : Bool) (o : Option SessionCounts) → is_some (cond b None o) ≡ cond b false (is_some o)
 forgotten_some true o = refl
 forgotten_some false o = refl

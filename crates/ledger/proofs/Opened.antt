@@ -15,7 +15,7 @@ use Rattle.deliveries.specs.declared.item.Item.{Item}
 use Rattle.ledger.specs.declared.seat.Seat.{Seat}
 use Rattle.registration.specs.declared.caps.Caps.{Caps}
 use Rattle.labels_batches.specs.declared.answers.Tagged.{Tagged}
-use Rattle.labels_batches.specs.Rendered.{rendered}
+use Rattle.labels_batches.specs.Rendered.{text_as}
 use Rattle.deeds.specs.Deeds.{facts}
 use Rattle.deliveries.specs.Owed.{item, owed}
 use Rattle.ledger.specs.Seats.{no_seat, kept_by, IsSeat, seat_at}
@@ -23,7 +23,8 @@ use Rattle.roster.specs.LookBack.{caps, numbers}
 use Rattle.deliveries.specs.Items.{deliveries}
 use Rattle.deliveries.proofs.Growing.{grows_by_one}
 use Rattle.ledger.proofs.Sent.{sent_none, sent_grown}
-use Rattle.ledger.specs.Ledger.{Shown, MayOpen, IsSent, box_at, is_here, sent_by, kept_for, held, planned, opened}
+use Rattle.ledger.specs.Ledger.{Shown, MayOpen, IsSent, box_at, is_here, sent_by, kept_for, kept_total, plan_part}
+use Rattle.ledger.specs.Ledger.{after_open}
 use Rattle.ledger.specs.Ledger.{IsSound}
 use Rattle.ledger.proofs.About.{not_owed}
 
@@ -46,17 +47,17 @@ held_more h f n small =
     ∙ sum_by_push f (numbers 1 n) (1 + n)) (omega arith)
 
 pub opened_held : (h : List Rec) (n : ℕ) (host : List ℕ) (moment : _)
-    → held (fresh_record h moment (Opened n host) ∷ h) ≤ held h + 2
+    → kept_total (fresh_record h moment (Opened n host) ∷ h) ≤ kept_total h + 2
 opened_held h n host moment = held_more h (kept_for h) (sessions h) (λ t. kept_small (gone h t) (shut h t))
 
 nothing_told : (cs : Caps) (moment : ℤ) (b c : Bool)
-    → (let N : List Tagged = [] in cond b (rendered cs moment (cond c N N)) []) ≡ []
+    → (let N : List Tagged = [] in cond b (text_as cs moment (cond c N N)) []) ≡ []
 nothing_told cs moment true true = refl
 nothing_told cs moment true false = refl
 nothing_told cs moment false c = refl
 
 pub opened_sound : {O : Type 0} (sent : O → List Item) (m : Shown O) (host : List ℕ) (moment : ℤ) (box : O)
-    → IsSound sent m → MayOpen m moment → sent box ≡ [] → IsSound sent (opened m host moment box)
+    → IsSound sent m → MayOpen m moment → sent box ≡ [] → IsSound sent (after_open m host moment box)
 opened_sound sent m host moment box i may fresh =
     let h = m.history in
     let g = m.settings in let n = length m.outboxes in let r = fresh_record h moment (Opened (sessions h + 1) host) in
@@ -82,12 +83,13 @@ opened_sound sent m host moment box i may fresh =
             | inl end ↦
                 let none : owed g h t
                 ≡ [] = not_owed g h t i.legal (let e = end.1 in let s = i.sessions in omega arith) in
-                let empty : deliveries (sent box) ++ planned m.plan t ≡ [] = rw fresh (ap (λ ps. planned ps t) idle) in
-                ap (λ o. deliveries (sent_by sent o) ++ planned m.plan t) (last t end.1) ∙ empty ∙ sym none
+                let empty : deliveries (sent box) ++ plan_part m.plan t ≡ [] =
+                rw fresh (ap (λ ps. plan_part ps t) idle) in
+                ap (λ o. deliveries (sent_by sent o) ++ plan_part m.plan t) (last t end.1) ∙ empty ∙ sym none
                 ∙ sym (same t)
             | inr other ↦
                 let below : t ≤ n = let ne = other.1 in omega arith in let is = kept t from below in
-                ap (λ o. deliveries (sent_by sent o) ++ planned m.plan t) is
+                ap (λ o. deliveries (sent_by sent o) ++ plan_part m.plan t) is
                 ∙ i.owed t from below (ap (λ o. is_some o) (sym is) ∙ here) ∙ sym (same t)
           ];
       items = λ t from to.
@@ -114,7 +116,7 @@ opened_sound sent m host moment box i may fresh =
       room =
           let room = may.room in
           let two = opened_held h (sessions h + 1) host moment in
-          let goal : length (r ∷ h) + held (r ∷ h) ≤ most m.limit = omega arith in goal;
+          let goal : length (r ∷ h) + kept_total (r ∷ h) ≤ most m.limit = omega arith in goal;
     }
 
 -- ---- what is kept free, counted over the seats
@@ -135,7 +137,7 @@ kept_sum h (x ∷ xs) k f =
 
 pub seats_held : {O : Type 0} (h : List Rec) (seats : List Seat) (boxes : List (Option O))
     → ((t : ℕ) → 0 < t → t ≤ length seats → IsSeat (seat_at seats t) (is_here boxes t) h t)
-    → sessions h ≡ length seats → sum_by kept_by seats ≡ held h
+    → sessions h ≡ length seats → sum_by kept_by seats ≡ kept_total h
 seats_held h seats boxes f e =
     kept_sum h seats 1 (λ i l. let from : 0 < 1 + i = omega arith in let to : 1 + i ≤ length seats = omega arith in
     let j : i ≡ 1 + i - 1 = omega arith in

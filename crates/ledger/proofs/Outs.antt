@@ -10,9 +10,9 @@ use Rattle.chronicle.specs.Journal.{miss}
 use Rattle.deliveries.specs.declared.item.Item.{Item}
 use Rattle.outbox.specs.declared.queue.PutFault.{PutFault}
 use Rattle.ledger.specs.declared.plan.Planned.{Planned}
-use Rattle.ledger.specs.declared.out.Step.{Step}
-use Rattle.ledger.specs.declared.out.Step.TheVariants.{Put, Missed}
-use Rattle.ledger.specs.Ledger.{Shown, delivered_to, dropped, IsPutNext, Out, IsOut}
+use Rattle.ledger.specs.declared.outcomes.Step.{Step}
+use Rattle.ledger.specs.declared.outcomes.Step.TheVariants.{Put, Missed}
+use Rattle.ledger.specs.Ledger.{Shown, delivered_to, after_miss, IsPutNext, Out, IsOut}
 use Rattle.ledger.specs.Ledger.{newest_missed, newest_actor, newest_next, newest_line, next_of, line_of}
 
 -- what is noted of a step
@@ -69,7 +69,7 @@ length_same [] t = refl
 length_same (r ∷ h) t = refl
 
 out_missed : {O : Type 0} (m : Shown O) (p q : Out) (x : Planned) (xs : List Planned) → IsOut m p → m.plan ≡ x ∷ xs
-    → IsNoted p (Some (Missed x.session)) q → IsOut (dropped m x xs) q
+    → IsNoted p (Some (Missed x.session)) q → IsOut (after_miss m x xs) q
 out_missed m p q x xs i e n =
     let h = m.history in
     let t = x.session in

@@ -10,9 +10,9 @@ use Rattle.registration.specs.declared.settings.Settings.{Settings}
 use Rattle.deliveries.specs.declared.delivery.Delivery.{Delivery}
 use Rattle.deliveries.specs.declared.delivery.Delivery.TheVariants.{Last}
 use Rattle.deliveries.specs.declared.item.Item.{Item}
-use Rattle.deliveries.specs.Owed.{item, reason, told, delivery, owed}
+use Rattle.deliveries.specs.Owed.{item, reason, told_text, delivery, owed}
 use Rattle.deliveries.specs.Items.{deliveries}
-use Rattle.ledger.specs.Ledger.{Shown, box_at, sent_by, is_here, planned, IsSound}
+use Rattle.ledger.specs.Ledger.{Shown, box_at, sent_by, is_here, plan_part, IsSound}
 
 item_small : (n : ℕ) (bytes : List ℕ) → length (item n bytes) ≤ 1
 item_small n [] = lit≤ tt
@@ -28,7 +28,7 @@ none_of false ys h = h
 
 delivery_small : (g : Settings) (h : List Rec) (k : Kind) (moment : ℤ) (t : ℕ) → length (delivery g h k moment t) ≤ 1
 delivery_small g h k moment t = one_of (ends k t) (Last (length h + 1) (reason k))
-    (item (length h + 1) (told g h k moment t)) (item_small (length h + 1) (told g h k moment t))
+    (item (length h + 1) (told_text g h k moment t)) (item_small (length h + 1) (told_text g h k moment t))
 
 longer : (xs ys : List Delivery) (n : ℕ) → length xs ≤ n → length ys ≤ 1 → length (xs ++ ys) ≤ n + 1
 longer xs ys n a b = let e = length-append xs ys in omega arith
@@ -50,7 +50,7 @@ module _ {O : Type 0} (sent : O → List Item) where
       → is_here m.outboxes t ≡ true → length (sent_by sent (box_at m.outboxes t)) + 1 < 18446744073709551616
   few_sent m t i from to here =
       let all = ap length (i.owed t from to here) in
-      let split = length-append (deliveries (sent_by sent (box_at m.outboxes t))) (planned m.plan t) in
+      let split = length-append (deliveries (sent_by sent (box_at m.outboxes t))) (plan_part m.plan t) in
       let same = deliveries_length (sent_by sent (box_at m.outboxes t)) in
       let most_ = owed_le m.settings m.history t in
       let room = i.room in let low = most_low m.limit.is_cut m.limit.records m.limit.dropped in
@@ -72,5 +72,5 @@ module _ {O : Type 0} (sent : O → List Item) where
   sent_owed m t i none from to here =
       sym (deliveries_length (sent_by sent (box_at m.outboxes t)))
       ∙ sym (ap length (append-nil (deliveries (sent_by sent (box_at m.outboxes t)))))
-      ∙ sym (ap (λ ps. length (deliveries (sent_by sent (box_at m.outboxes t)) ++ planned ps t)) none)
+      ∙ sym (ap (λ ps. length (deliveries (sent_by sent (box_at m.outboxes t)) ++ plan_part ps t)) none)
       ∙ ap length (i.owed t from to here)

@@ -9,17 +9,17 @@ use Rattle.std.proofs.lemmas.Int.{by_lt_z, ints}
 use Rattle.std.specs.Map.{lookup, lookup_entry, remove_entry, set_value}
 use Rattle.lru.specs.LruCache.{lru_cache, put_entries}
 use Rattle.ledger.specs.declared.last_heard.Since.{Since}
-use Rattle.chronicle.specs.Quiet.{PING_AFTER, LATE_AFTER}
+use Rattle.chronicle.specs.Idle.{PING_AFTER, LATE_AFTER}
 use Rattle.ledger.specs.declared.seat.Seat.{Seat}
 use Rattle.ledger.specs.Seats.{hears}
 use Rattle.ledger.specs.LastHeard.{since_at, Falls, is_before, is_due, is_overdue}
-use Rattle.ledger.specs.LastHeard.{picked, lower, lower_of, lowest, with_ping}
+use Rattle.ledger.specs.LastHeard.{who_pass, lower, lower_of, lowest, with_ping}
 
 pub picked-append : (f : ℕ × Since → Bool) (xs ys : List (ℕ × Since))
-    → picked f (xs ++ ys) ≡ picked f ys ++ picked f xs
-picked-append f [] ys = sym (append-nil (picked f ys))
+    → who_pass f (xs ++ ys) ≡ who_pass f ys ++ who_pass f xs
+picked-append f [] ys = sym (append-nil (who_pass f ys))
 picked-append f (e ∷ xs) ys = ap (λ (ns : List ℕ). ns ++ cond (f e) (e.0 ∷ []) []) (picked-append f xs ys)
-    ∙ append_assoc (picked f ys) (picked f xs) (cond (f e) (e.0 ∷ []) [])
+    ∙ append_assoc (who_pass f ys) (who_pass f xs) (cond (f e) (e.0 ∷ []) [])
 
 pub le_refl : (a : ℤ) → a ≤ℤ a
 le_refl a = by_lt_z a a (λ less. absurd (let f : ⊥ = omega (arith, ints) in f)) (λ more. more)
@@ -44,10 +44,10 @@ falls_to : (latest : ℤ) (xs ys : List (ℕ × Since)) (e : ℕ × Since) → F
 falls_to latest [] ys e i = i.0
 falls_to latest (x ∷ xs) ys e i = le_trans e.1.moment x.1.moment latest (falls_to x.1.moment xs ys e i.1) i.0
 
--- none passes before one that isn't quiet for so long
+-- none passes before one that isn't idle for so long
 pub none_picked : (f : ℕ × Since → Bool) (span moment latest : ℤ) (xs ys : List (ℕ × Since)) (e : ℕ × Since)
     → ((x : ℕ × Since) → is_before x.1 span moment ≡ false → f x ≡ false)
-    → Falls latest (xs ++ e ∷ ys) → is_before e.1 span moment ≡ false → picked f (xs ++ e ∷ []) ≡ []
+    → Falls latest (xs ++ e ∷ ys) → is_before e.1 span moment ≡ false → who_pass f (xs ++ e ∷ []) ≡ []
 none_picked f span moment latest [] ys e only i early = ap (λ (b : Bool). cond b (e.0 ∷ []) []) (only e early)
 none_picked f span moment latest (x ∷ xs) ys e only i early =
     let none = none_picked f span moment x.1.moment xs ys e only i.1 early in
@@ -61,7 +61,7 @@ none_picked f span moment latest (x ∷ xs) ys e only i early =
 pub record IsSeen (f : ℕ × Since → Bool) (all rest : List (ℕ × Since)) (found : List ℕ) : Type 0 where
   pub seen : List (ℕ × Since)
   pub parts : all ≡ rest ++ seen
-  pub found_is : found ≡ picked f seen
+  pub found_is : found ≡ who_pass f seen
 
 pub seen_none : (f : ℕ × Since → Bool) (all rest : List (ℕ × Since)) (found : List ℕ) → rest ≡ all → found ≡ []
     → IsSeen f all rest found
@@ -78,22 +78,22 @@ seen_more f all rest left found more e i er em =
     }
 
 pub seen_all : (f : ℕ × Since → Bool) (all rest : List (ℕ × Since)) (found : List ℕ) → IsSeen f all rest found
-    → rest ≡ [] → found ≡ picked f all
+    → rest ≡ [] → found ≡ who_pass f all
 seen_all f all rest found i er = i.found_is
-    ∙ sym (ap (picked f) (i.parts ∙ ap (λ (xs : List (ℕ × Since)). xs ++ i.seen) er))
+    ∙ sym (ap (who_pass f) (i.parts ∙ ap (λ (xs : List (ℕ × Since)). xs ++ i.seen) er))
 
 pub seen_enough : (f : ℕ × Since → Bool) (span moment latest : ℤ) (all rest left : List (ℕ × Since))
     (found : List ℕ) (e : ℕ × Since) → ((x : ℕ × Since) → is_before x.1 span moment ≡ false → f x ≡ false)
     → Falls latest all → IsSeen f all rest found → rest ≡ left ++ e ∷ [] → is_before e.1 span moment ≡ false
-    → found ≡ picked f all
+    → found ≡ who_pass f all
 seen_enough f span moment latest all rest left found e only i s er early =
     let parts : all ≡ left ++ e ∷ s.seen = s.parts ∙ ap (λ (xs : List (ℕ × Since)). xs ++ s.seen) er
     ∙ append_assoc left (e ∷ []) s.seen in
-    let none : picked f (left ++ e ∷ []) ≡ [] = none_picked f span moment latest left s.seen e only
+    let none : who_pass f (left ++ e ∷ []) ≡ [] = none_picked f span moment latest left s.seen e only
     (subst (Falls latest) parts i) early in
-    let whole : picked f all ≡ picked f s.seen ++ picked f (left ++ e ∷ []) = ap (picked f)
+    let whole : who_pass f all ≡ who_pass f s.seen ++ who_pass f (left ++ e ∷ []) = ap (who_pass f)
     (s.parts ∙ ap (λ (xs : List (ℕ × Since)). xs ++ s.seen) er) ∙ picked-append f (left ++ e ∷ []) s.seen in
-    s.found_is ∙ sym (whole ∙ ap (λ (ns : List ℕ). picked f s.seen ++ ns) none ∙ append-nil (picked f s.seen))
+    s.found_is ∙ sym (whole ∙ ap (λ (ns : List ℕ). who_pass f s.seen ++ ns) none ∙ append-nil (who_pass f s.seen))
 
 -- ---- a ping is noted
 
@@ -156,17 +156,17 @@ not_yet_late seats moment e early = ap (λ b. b && hears seats e.0) early
 
 -- one that passes is found among all
 pub seen_some : (f : ℕ × Since → Bool) (all rest left : List (ℕ × Since)) (found : List ℕ) (e : ℕ × Since)
-    → IsSeen f all rest found → rest ≡ left ++ e ∷ [] → f e ≡ true → picked f all ≢ []
+    → IsSeen f all rest found → rest ≡ left ++ e ∷ [] → f e ≡ true → who_pass f all ≢ []
 seen_some f all rest left found e i er passes none =
     let s = seen_more f all rest left found (found ++ cond (f e) (e.0 ∷ []) []) e i er refl in
-    let parts : picked f all ≡ picked f s.seen ++ picked f left = ap (picked f) s.parts
+    let parts : who_pass f all ≡ who_pass f s.seen ++ who_pass f left = ap (who_pass f) s.parts
     ∙ picked-append f left s.seen in
-    let found_is : found ++ e.0 ∷ [] ≡ picked f s.seen = ap
+    let found_is : found ++ e.0 ∷ [] ≡ who_pass f s.seen = ap
     (λ (b : Bool). found ++ cond b (e.0 ∷ []) []) (sym passes) ∙ s.found_is in
-    let sizes : length (picked f s.seen ++ picked f left)
-    ≡ length (picked f s.seen) + length (picked f left) = length-append (picked f s.seen) (picked f left) in
+    let sizes : length (who_pass f s.seen ++ who_pass f left)
+    ≡ length (who_pass f s.seen) + length (who_pass f left) = length-append (who_pass f s.seen) (who_pass f left) in
     let more : length (found ++ e.0 ∷ []) ≡ length found + 1 = length-append found (e.0 ∷ []) in
-    let zero_ : length (picked f s.seen ++ picked f left) ≡ 0 = ap length (sym parts ∙ none) in
+    let zero_ : length (who_pass f s.seen ++ who_pass f left) ≡ 0 = ap length (sym parts ∙ none) in
     let same = ap length found_is in omega arith
 
 lowest_after : (n k : ℕ) (o : Option ℕ) → lower_of k (lower o n) ≡ min (lower_of k o) n
@@ -180,9 +180,9 @@ lowest_more (k ∷ ns) n = ap (λ (o : Option ℕ). Some (lower_of k o)) (lowest
 
 pub due_passes : (seats : List Seat) (moment : ℤ) (e : ℕ × Since) → is_before e.1 PING_AFTER moment ≡ true
     → hears seats e.0 ≡ true → e.1.pinged ≡ false → is_due seats moment e ≡ true
-due_passes seats moment e quiet open_ new = ap (λ b. b && (hears seats e.0 && not e.1.pinged)) quiet ∙ ap
+due_passes seats moment e idle open_ new = ap (λ b. b && (hears seats e.0 && not e.1.pinged)) idle ∙ ap
     (λ b. b && not e.1.pinged) open_ ∙ ap not new
 
 pub late_passes : (seats : List Seat) (moment : ℤ) (e : ℕ × Since) → is_before e.1 LATE_AFTER moment ≡ true
     → hears seats e.0 ≡ true → is_overdue seats moment e ≡ true
-late_passes seats moment e quiet open_ = ap (λ b. b && hears seats e.0) quiet ∙ open_
+late_passes seats moment e idle open_ = ap (λ b. b && hears seats e.0) idle ∙ open_

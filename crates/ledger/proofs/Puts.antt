@@ -5,9 +5,9 @@ use Rattle.chronicle.specs.Journal.{Limit, miss}
 use Rattle.ledger.specs.declared.plan.Planned.{Planned}
 use Rattle.deliveries.specs.declared.item.Item.{Item}
 use Rattle.outbox.specs.declared.queue.PutFault.{PutFault}
-use Rattle.ledger.specs.declared.out.Step.TheVariants.{Put, Missed}
+use Rattle.ledger.specs.declared.outcomes.Step.TheVariants.{Put, Missed}
 use Rattle.ledger.specs.Seats.{IsTaken, IsNotTaken}
-use Rattle.ledger.specs.Ledger.{Shown, item_of, dropped, IsPutNext}
+use Rattle.ledger.specs.Ledger.{Shown, item_of, after_miss, IsPutNext}
 
 -- the delivery was put
 pub put_is : {O : Type 0} (sent : O → List Item) (accepts : O → Item → O → Type 0) (refuses : O → PutFault → Type 0)
@@ -63,7 +63,7 @@ miss_is {O} accepts refuses m p qs h l more e i eh el em =
       plan = qs;
       busy = m.busy;
     } in
-    let is : k ≡ dropped m p qs =
+    let is : k ≡ after_miss m p qs =
     ap (λ (x : List (Option O)). record {
       history = h;
       limit = l;

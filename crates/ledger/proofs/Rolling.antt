@@ -12,7 +12,7 @@ use Rattle.deeds.specs.Deeds.{facts}
 use Rattle.ledger.specs.declared.plan.Planned.{Planned}
 use Rattle.ledger.specs.declared.seat.Seat.{Seat}
 use Rattle.ledger.specs.Seats.{IsSeat, seat_at}
-use Rattle.ledger.specs.Ledger.{empty_ledger, rolled, is_here, held, IsSound}
+use Rattle.ledger.specs.Ledger.{empty_ledger, after_roll, is_here, kept_total, IsSound}
 use Rattle.ledger.specs.Kept.{IsKept}
 use Rattle.ledger.specs.Noted.{Noted, is_noted, IsOfDropped}
 use Rattle.ledger.proofs.KeptSteps.{shown}
@@ -46,7 +46,7 @@ module _ {O : Type 0} (sent : O → List Item) where
         room = let was = i.room in omega arith;
       }
 
-  pub cut_kept : (j k : journal.Shown) (g : Settings) (known : List Deed) (seats : List Seat)
+  pub cut_kept : (j k : journal.JournalView) (g : Settings) (known : List Deed) (seats : List Seat)
       (boxes : List (Option O)) (plan : List Planned) (busy : Bool) → IsKept sent j g known seats boxes plan busy
       → busy ≡ false → j.limit.dropped ≤ length j.history → Cuts j k → IsKept sent k g known seats boxes plan busy
   cut_kept j k g known seats boxes plan busy i idle few cut =
@@ -63,14 +63,14 @@ module _ {O : Type 0} (sent : O → List Item) where
         opened = i.opened;
         places = i.places;
         left = omega arith;
-        room = rw cut.history (let goal : held j.history ≤ k.room = omega arith in goal);
+        room = rw cut.history (let goal : kept_total j.history ≤ k.room = omega arith in goal);
       }
 
 -- all records are those that were dropped
 all_dropped : (h : List Rec) → dropped_part (length h) h ≡ h
 all_dropped h = let e : length h - length h ≡ 0 = omega arith in ap (λ (i : ℕ). drop i h) e
 
-pub cut_based : {O : Type 0} (j k : journal.Shown) (g : Settings) (boxes : List (Option O)) (b : Noted)
+pub cut_based : {O : Type 0} (j k : journal.JournalView) (g : Settings) (boxes : List (Option O)) (b : Noted)
     → Cuts j k → b.front ≡ j.history → b.settings ≡ g → sessions j.history ≡ length boxes
     → ((t : ℕ) → 0 < t → t ≤ sessions j.history → is_noted b t ≡ is_here boxes t)
     → ((t : ℕ) → is_noted b t ≡ true → (0 < t) × (t ≤ sessions j.history))
@@ -90,8 +90,8 @@ cut_based j k g boxes b cut ef es many noted early =
 
 -- ---- the state
 
-pub shown_cut : {O : Type 0} (j k : journal.Shown) (g : Settings) (boxes : List (Option O)) (plan : List Planned)
-    (busy : Bool) → Cuts j k → shown k g boxes plan busy ≡ rolled (shown j g boxes plan busy)
+pub shown_cut : {O : Type 0} (j k : journal.JournalView) (g : Settings) (boxes : List (Option O)) (plan : List Planned)
+    (busy : Bool) → Cuts j k → shown k g boxes plan busy ≡ after_roll (shown j g boxes plan busy)
 shown_cut j k g boxes plan busy cut =
     ap (λ (h : List Rec). record {
       history = h;
@@ -110,7 +110,7 @@ shown_cut j k g boxes plan busy cut =
       busy = busy;
     }) cut.limit
 
-pub shown_empty : {O : Type 0} (j : journal.Shown) (g settings : Settings) (boxes : List (Option O))
+pub shown_empty : {O : Type 0} (j : journal.JournalView) (g settings : Settings) (boxes : List (Option O))
     (plan : List Planned) (limit : ℕ) → j.history ≡ []
     → j.limit ≡ record { records = limit; dropped = 0; is_cut = false }
     → g ≡ settings → boxes ≡ [] → plan ≡ [] → shown j g boxes plan false ≡ empty_ledger limit settings

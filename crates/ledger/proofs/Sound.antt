@@ -26,8 +26,9 @@ use Rattle.deliveries.proofs.Growing.{grows_by_a_miss}
 use Rattle.deliveries.proofs.Newest.{of_newest}
 use Rattle.ledger.proofs.Sent.{sent_none, sent_grown, sent_one, delivered_one, may_continue}
 use Rattle.ledger.specs.Seats.{MayFollow}
-use Rattle.ledger.specs.Ledger.{Shown, IsSent, item_of, box_at, sent_by, box_of, outbox_at, is_here, held, planned}
-use Rattle.ledger.specs.Ledger.{delivered_to, dropped, finished, taken, reaped, IsOwed, IsPlan, IsSound}
+use Rattle.ledger.specs.Ledger.{Shown, IsSent, item_of, box_at, sent_by, box_of, outbox_at, is_here, kept_total}
+use Rattle.ledger.specs.Ledger.{plan_part}
+use Rattle.ledger.specs.Ledger.{delivered_to, after_miss, after_end, after_take, after_reap, IsOwed, IsPlan, IsSound}
 
 -- ---- the newest record is missed by one more session
 
@@ -41,14 +42,14 @@ pub misses_other : (r : Rec) (s t : ℕ) → s ≢ t → misses (more r s) t ≡
 misses_other r s t ne = list_any-append (λ u. u == t) r.missed (s ∷ []) ∙ grind (arith, common_steps, ne_eqb s t ne)
 
 -- who has nothing in a plan is no head of it
-apart : (q : Planned) (qs : List Planned) (s : ℕ) → planned (q ∷ qs) s ≡ [] → (s ≢ q.session) × (planned qs s ≡ [])
+apart : (q : Planned) (qs : List Planned) (s : ℕ) → plan_part (q ∷ qs) s ≡ [] → (s ≢ q.session) × (plan_part qs s ≡ [])
 apart q qs s e =
     elim (eqb_tells q.session s) [
-      | inl same ↦ absurd (let f : q.delivery ∷ planned qs s ≡ [] = rw same.0 at e in cc)
+      | inl same ↦ absurd (let f : q.delivery ∷ plan_part qs s ≡ [] = rw same.0 at e in cc)
       | inr other ↦ ((λ i. other.1 (sym i)), rw other.0 at e)
     ]
 
-plan_after : (g : Settings) (r : Rec) (h : List Rec) (n s : ℕ) (qs : List Planned) → planned qs s ≡ []
+plan_after : (g : Settings) (r : Rec) (h : List Rec) (n s : ℕ) (qs : List Planned) → plan_part qs s ≡ []
     → IsPlan g (r ∷ h) n qs → IsPlan g (more r s ∷ h) n qs
 plan_after g r h n s [] e p = tt
 plan_after g r h n s (q ∷ qs) e p =
@@ -57,11 +58,11 @@ plan_after g r h n s (q ∷ qs) e p =
 
 -- the session that missed it
 owed_missed : (g : Settings) (r : Rec) (h : List Rec) (had : List Delivery) (p : Planned) (ps : List Planned)
-    → planned ps p.session ≡ [] → IsOwed g (r ∷ h) p → had ++ planned (p ∷ ps) p.session ≡ owed g (r ∷ h) p.session
-    → had ++ planned ps p.session ≡ owed g (more r p.session ∷ h) p.session
+    → plan_part ps p.session ≡ [] → IsOwed g (r ∷ h) p → had ++ plan_part (p ∷ ps) p.session ≡ owed g (r ∷ h) p.session
+    → had ++ plan_part ps p.session ≡ owed g (more r p.session ∷ h) p.session
 owed_missed g r h had p ps none own k =
     let s = p.session in let d = delivery g h r.kind r.moment s in
-    let head : planned (p ∷ ps) s ≡ p.delivery ∷ [] = rw (eq-eqb s s refl) (ap (λ xs. p.delivery ∷ xs) none) in
+    let head : plan_part (p ∷ ps) s ≡ p.delivery ∷ [] = rw (eq-eqb s s refl) (ap (λ xs. p.delivery ∷ xs) none) in
     let last : cond (misses r s || shut h s) [] d ≡ p.delivery ∷ [] = ap
     (λ (c : Bool). cond (c || shut h s) [] d) own.2 ∙ ap (λ (c : Bool). cond c [] d) own.1 ∙ own.0 in
     let got : had ++ p.delivery ∷ [] ≡ owed g h s ++ p.delivery ∷ [] = ap (λ xs. had ++ xs) (sym head) ∙ k ∙ ap
@@ -72,10 +73,10 @@ owed_missed g r h had p ps none own k =
 
 -- another session
 owed_elsewhere : (g : Settings) (r : Rec) (h : List Rec) (had : List Delivery) (p : Planned)
-    (ps : List Planned) (t : ℕ) → p.session ≢ t → had ++ planned (p ∷ ps) t ≡ owed g (r ∷ h) t
-    → had ++ planned ps t ≡ owed g (more r p.session ∷ h) t
+    (ps : List Planned) (t : ℕ) → p.session ≢ t → had ++ plan_part (p ∷ ps) t ≡ owed g (r ∷ h) t
+    → had ++ plan_part ps t ≡ owed g (more r p.session ∷ h) t
 owed_elsewhere g r h had p ps t ne k =
-    ap (λ (c : Bool). had ++ cond c (p.delivery ∷ planned ps t) (planned ps t)) (sym (ne_eqb p.session t ne)) ∙ k
+    ap (λ (c : Bool). had ++ cond c (p.delivery ∷ plan_part ps t) (plan_part ps t)) (sym (ne_eqb p.session t ne)) ∙ k
     ∙ ap (λ (c : Bool). owed g h t ++ cond (c || shut h t) [] (delivery g h r.kind r.moment t))
     (sym (misses_other r p.session t ne))
 
@@ -125,7 +126,7 @@ shut_more r h s t e =
     ]
 
 -- one more that misses the newest record keeps no more free
-pub held_missed : (r : Rec) (h : List Rec) (s : ℕ) → held (more r s ∷ h) ≤ held (r ∷ h)
+pub held_missed : (r : Rec) (h : List Rec) (s : ℕ) → kept_total (more r s ∷ h) ≤ kept_total (r ∷ h)
 held_missed r h s =
     sum_le _ _ (numbers 1 (sessions (r ∷ h))) (λ t. kept_less (gone (r ∷ h) t) (shut (more r s ∷ h) t)
     (gone (r ∷ h) t) (shut (r ∷ h) t) (λ e. e) (shut_more r h s t))
@@ -180,7 +181,7 @@ module _ {O : Type 0} (sent : O → List Item) where
         outboxes = boxes;
         plan = p ∷ ps;
         busy = busy;
-      } in IsSound sent m → IsSound sent (dropped m p ps)
+      } in IsSound sent m → IsSound sent (after_miss m p ps)
   dropped_at [] limit g boxes busy p ps i = absurd i.plan.3
   dropped_at (r ∷ h) limit g boxes busy p ps i =
       let own = i.plan.3 in
@@ -191,7 +192,7 @@ module _ {O : Type 0} (sent : O → List Item) where
               | inl same ↦
                   let k = i.owed p.session i.plan.0 i.plan.1 (ap (is_here boxes) same.1 ∙ here) in
                   let was = deliveries (sent_by sent (box_at boxes p.session)) in
-                  subst (λ (u : ℕ). deliveries (sent_by sent (box_at boxes u)) ++ planned ps u
+                  subst (λ (u : ℕ). deliveries (sent_by sent (box_at boxes u)) ++ plan_part ps u
                   ≡ owed g (more r p.session ∷ h) u) same.1 (owed_missed g r h was p ps i.plan.2 own k)
               | inr other ↦ owed_elsewhere g r h had p ps t other.1 (i.owed t from to here)
             ];
@@ -210,12 +211,14 @@ module _ {O : Type 0} (sent : O → List Item) where
         );
         sessions = i.sessions;
         room =
-            let less = held_missed r h p.session in let old : length (r ∷ h) + held (r ∷ h) ≤ most limit = i.room in
-            let goal : length (more r p.session ∷ h) + held (more r p.session ∷ h) ≤ most limit = omega arith in goal;
+            let less = held_missed r h p.session in
+            let old : length (r ∷ h) + kept_total (r ∷ h) ≤ most limit = i.room in
+            let goal : length (more r p.session ∷ h) + kept_total (more r p.session ∷ h) ≤ most limit = omega arith in
+            goal;
       }
 
   pub dropped_sound : (m : Shown O) (p : Planned) (ps : List Planned) → m.plan ≡ p ∷ ps → IsSound sent m
-      → IsSound sent (dropped m p ps)
+      → IsSound sent (after_miss m p ps)
   dropped_sound m p ps e i = dropped_at m.history m.limit m.settings m.outboxes m.busy p ps
       (subst (λ qs. IsSound sent (record {
         history = m.history;
@@ -246,7 +249,7 @@ module _ {O : Type 0} (sent : O → List Item) where
       let g = m.settings in
       let h = m.history in
       let is : IsPlan g h (length m.outboxes) (p ∷ ps) = subst (IsPlan g h (length m.outboxes)) e i.plan in
-      let head : planned m.plan s ≡ p.delivery ∷ [] = ap (λ qs. planned qs s) e ∙ (let f : planned (p ∷ ps) s
+      let head : plan_part m.plan s ≡ p.delivery ∷ [] = ap (λ qs. plan_part qs s) e ∙ (let f : plan_part (p ∷ ps) s
       ≡ p.delivery ∷ [] = rw (eq-eqb s s refl) (ap (λ xs. p.delivery ∷ xs) is.2) in f) in
       let all : deliveries (sent_by sent (box_at m.outboxes s)) ++ p.delivery ∷ []
       ≡ owed g h s = ap (λ xs. deliveries (sent_by sent (box_at m.outboxes s)) ++ xs) (sym head)
@@ -276,23 +279,24 @@ module _ {O : Type 0} (sent : O → List Item) where
             let to' : t ≤ length boxes = omega arith in
             elim (eqb_tells s t) [
               | inl same ↦
-                  let head : planned (p ∷ ps) s ≡ p.delivery ∷ planned ps s = rw (eq-eqb s s refl) refl in
-                  let k : deliveries (sent b) ++ planned ps s ≡ owed g h s =
-                  ap (λ xs. deliveries xs ++ planned ps s) grew ∙ ap (λ xs. xs ++ planned ps s)
-                  (delivered_one (sent a) x) ∙ ap (λ d. (deliveries (sent a) ++ d ∷ []) ++ planned ps s) what
-                  ∙ append_assoc (deliveries (sent a)) (p.delivery ∷ []) (planned ps s) ∙ ap
+                  let head : plan_part (p ∷ ps) s ≡ p.delivery ∷ plan_part ps s = rw (eq-eqb s s refl) refl in
+                  let k : deliveries (sent b) ++ plan_part ps s ≡ owed g h s =
+                  ap (λ xs. deliveries xs ++ plan_part ps s) grew ∙ ap (λ xs. xs ++ plan_part ps s)
+                  (delivered_one (sent a) x) ∙ ap (λ d. (deliveries (sent a) ++ d ∷ []) ++ plan_part ps s) what
+                  ∙ append_assoc (deliveries (sent a)) (p.delivery ∷ []) (plan_part ps s) ∙ ap
                   (λ xs. deliveries (sent a) ++ xs) (sym head)
-                  ∙ ap (λ o. deliveries (sent_by sent o) ++ planned (p ∷ ps) s) (sym at)
+                  ∙ ap (λ o. deliveries (sent_by sent o) ++ plan_part (p ∷ ps) s) (sym at)
                   ∙ i.owed s i.plan.0 i.plan.1 there in
-                  let here_ : deliveries (sent_by sent (box_at new s)) ++ planned ps s
-                  ≡ owed g h s = ap (λ o. deliveries (sent_by sent o) ++ planned ps s)
+                  let here_ : deliveries (sent_by sent (box_at new s)) ++ plan_part ps s
+                  ≡ owed g h s = ap (λ o. deliveries (sent_by sent o) ++ plan_part ps s)
                   (box_same boxes s (Some b) i.plan.0 i.plan.1) ∙ k in
-                  subst (λ (u : ℕ). deliveries (sent_by sent (box_at new u)) ++ planned ps u ≡ owed g h u) same.1 here_
+                  subst (λ (u : ℕ). deliveries (sent_by sent (box_at new u)) ++ plan_part ps u
+                  ≡ owed g h u) same.1 here_
               | inr other ↦
                   let is = box_other boxes s t (Some b) i.plan.0 from other.1 in
-                  ap (λ o. deliveries (sent_by sent o) ++ planned ps t) is
+                  ap (λ o. deliveries (sent_by sent o) ++ plan_part ps t) is
                   ∙ ap (λ (c : Bool). deliveries (sent_by sent (box_at boxes t))
-                  ++ cond c (p.delivery ∷ planned ps t) (planned ps t)) (sym other.0)
+                  ++ cond c (p.delivery ∷ plan_part ps t) (plan_part ps t)) (sym other.0)
                   ∙ i.owed t from to' (ap (λ o. is_some o) (sym is) ∙ here)
             ];
         items = λ t from to.
@@ -341,7 +345,7 @@ module _ {O : Type 0} (sent : O → List Item) where
 
   -- ---- the plan is given back
 
-  pub finished_sound : (m : Shown O) → m.plan ≡ [] → IsSound sent m → IsSound sent (finished m)
+  pub finished_sound : (m : Shown O) → m.plan ≡ [] → IsSound sent m → IsSound sent (after_end m)
   finished_sound m none i = record {
     owed = i.owed;
     items = i.items;
@@ -373,17 +377,17 @@ module _ {O : Type 0} (sent : O → List Item) where
             let to' : t ≤ length boxes = omega arith in
             elim (eqb_tells s t) [
               | inl same ↦
-                  let here_ : deliveries (sent_by sent (box_at new s)) ++ planned m.plan s
+                  let here_ : deliveries (sent_by sent (box_at new s)) ++ plan_part m.plan s
                   ≡ owed m.settings m.history s =
-                  ap (λ o. deliveries (sent_by sent o) ++ planned m.plan s) (box_same boxes s (Some b) above below)
-                  ∙ ap (λ xs. deliveries xs ++ planned m.plan s) same_sent
-                  ∙ ap (λ o. deliveries (sent_by sent o) ++ planned m.plan s) (sym at)
+                  ap (λ o. deliveries (sent_by sent o) ++ plan_part m.plan s) (box_same boxes s (Some b) above below)
+                  ∙ ap (λ xs. deliveries xs ++ plan_part m.plan s) same_sent
+                  ∙ ap (λ o. deliveries (sent_by sent o) ++ plan_part m.plan s) (sym at)
                   ∙ i.owed s above below (ap (λ o. is_some o) at) in
-                  subst (λ (u : ℕ). deliveries (sent_by sent (box_at new u)) ++ planned m.plan u
+                  subst (λ (u : ℕ). deliveries (sent_by sent (box_at new u)) ++ plan_part m.plan u
                   ≡ owed m.settings m.history u) same.1 here_
               | inr other ↦
                   let is = box_other boxes s t (Some b) above from other.1 in
-                  ap (λ o. deliveries (sent_by sent o) ++ planned m.plan t) is
+                  ap (λ o. deliveries (sent_by sent o) ++ plan_part m.plan t) is
                   ∙ i.owed t from to' (ap (λ o. is_some o) (sym is) ∙ here)
             ];
         items = λ t from to.
@@ -418,7 +422,7 @@ module _ {O : Type 0} (sent : O → List Item) where
   -- ---- a session is given up
 
   pub reaped_sound : (m : Shown O) (s : ℕ) → 0 < s → s ≤ length m.outboxes → gone m.history s ≡ true
-      → IsSound sent m → IsSound sent (reaped m s)
+      → IsSound sent m → IsSound sent (after_reap m s)
   reaped_sound m s above below left i =
       let boxes = m.outboxes in let new = slice_set boxes (s - 1) None in
       let len : length new ≡ length boxes = simp length-set in
@@ -430,7 +434,7 @@ module _ {O : Type 0} (sent : O → List Item) where
                   (λ o. is_some o) (sym (box_same boxes s None above below)) ∙ ap (is_here new) same.1 ∙ here in cc)
               | inr other ↦
                   let is = box_other boxes s t None above from other.1 in
-                  ap (λ o. deliveries (sent_by sent o) ++ planned m.plan t) is
+                  ap (λ o. deliveries (sent_by sent o) ++ plan_part m.plan t) is
                   ∙ i.owed t from to' (ap (λ o. is_some o) (sym is) ∙ here)
             ];
         items = λ t from to.
@@ -469,7 +473,7 @@ taken_as None e = absurd (let f : false ≡ true = e in cc)
 taken_as (Some b) e = refl
 
 pub taken_sound : (m : Shown Waiting) (s : ℕ) → 0 < s → s ≤ length m.outboxes → is_here m.outboxes s ≡ true
-    → IsSound put_into m → IsSound put_into (taken m s)
+    → IsSound put_into m → IsSound put_into (after_take m s)
 taken_sound m s above below there i =
     let b = outbox_at m.outboxes s in
     changed_sound put_into m s b (with_taken b) above below (taken_as (box_at m.outboxes s) there)

@@ -5,12 +5,12 @@ use Rattle.std.specs.Option.{is_some}
 use Rattle.std.specs.List.{fold}
 use Rattle.std.specs.Map.{lookup}
 use Rattle.chronicle.specs.History.{Rec, last_moment}
-use Rattle.chronicle.specs.Quiet.{PING_AFTER, LATE_AFTER, quiet_since, was_pinged}
+use Rattle.chronicle.specs.Idle.{PING_AFTER, LATE_AFTER, idle_since, was_pinged}
 use Rattle.ledger.specs.declared.last_heard.Since.{Since}
 use Rattle.ledger.specs.declared.seat.Seat.{Seat}
 use Rattle.ledger.specs.Seats.{hears, IsThere}
 
--- since when session t is quiet
+-- since when session t is idle
 abbrev pub since_at : List (ℕ × Since) → ℕ → Option Since
 since_at xs t = lookup (nat_eq t) xs
 
@@ -32,9 +32,9 @@ abbrev pub is_overdue : List Seat → ℤ → ℕ × Since → Bool
 is_overdue seats moment e = is_before e.1 LATE_AFTER moment && hears seats e.0
 
 -- the sessions that pass, whoever was heard of longest ago first
-abbrev pub picked : (ℕ × Since → Bool) → List (ℕ × Since) → List ℕ
-picked f [] = []
-picked f (e ∷ es) = picked f es ++ cond (f e) (e.0 ∷ []) []
+abbrev pub who_pass : (ℕ × Since → Bool) → List (ℕ × Since) → List ℕ
+who_pass f [] = []
+who_pass f (e ∷ es) = who_pass f es ++ cond (f e) (e.0 ∷ []) []
 
 -- the lower of two numbers, where there is one before
 abbrev pub lower : Option ℕ → ℕ → Option ℕ
@@ -62,7 +62,7 @@ with_pings xs ts = fold (λ ys t. with_ping t ys) xs ts
 
 -- what is kept of session t is what the history says
 pub record IsSince (x : Since) (h : List Rec) (t : ℕ) : Type 0 where
-  pub moment : quiet_since h t ≡ Some x.moment
+  pub moment : idle_since h t ≡ Some x.moment
   pub pinged : was_pinged h t ≡ x.pinged
 
 -- it is kept of each session that is there, and of no other, whoever was heard of last first

@@ -8,7 +8,7 @@ use Rattle.chronicle.specs.declared.why.Why.{Why}
 use Rattle.chronicle.specs.declared.record.Kind.{Kind}
 use Rattle.chronicle.specs.declared.record.Kind.TheVariants.{Opened, Said, Hung, Gone, Ticked}
 use Rattle.chronicle.specs.History.{Rec, IsMomentAfter, last_moment, sessions, actor, accepted, misses, shut, gone}
-use Rattle.chronicle.specs.Quiet.{is_pinged, is_late}
+use Rattle.chronicle.specs.Idle.{is_pinged, is_late}
 use Rattle.chronicle.specs.Journal.{Limit, most, fresh_record, miss}
 use Rattle.registration.specs.declared.settings.Settings.{Settings}
 use Rattle.deliveries.specs.declared.delivery.Delivery.{Delivery}
@@ -28,8 +28,8 @@ use Rattle.ledger.specs.declared.refusals.RollRefusal.{RollRefusal}
 use Rattle.ledger.specs.declared.refusals.RollRefusal.TheVariants as rolling
 use Rattle.ledger.specs.declared.refusals.ReapRefusal.{ReapRefusal}
 use Rattle.ledger.specs.declared.refusals.ReapRefusal.TheVariants as reaping
-use Rattle.ledger.specs.declared.out.Step.{Step}
-use Rattle.ledger.specs.declared.out.Step.TheVariants.{Put, Missed}
+use Rattle.ledger.specs.declared.outcomes.Step.{Step}
+use Rattle.ledger.specs.declared.outcomes.Step.TheVariants.{Put, Missed}
 use Rattle.outbox.specs.declared.queue.PutFault.{PutFault}
 use Rattle.outbox.specs.Ring.{Waiting, empty_ring, has_room, with_put, with_taken}
 use Rattle.deliveries.specs.Items.{deliveries, front}
@@ -92,8 +92,8 @@ outbox_at boxes t = box_of (slice_index_or boxes (t - 1) None)
 abbrev pub kept_for : List Rec → ℕ → ℕ
 kept_for h t = cond (gone h t) 0 (cond (shut h t) 1 2)
 
-abbrev pub held : List Rec → ℕ
-held h = sum_by (kept_for h) (numbers 1 (sessions h))
+abbrev pub kept_total : List Rec → ℕ
+kept_total h = sum_by (kept_for h) (numbers 1 (sessions h))
 
 -- ---- the plan of a record: its deliveries, the actor's first, then by session number, to sessions that weren't
 -- shut before it
@@ -116,9 +116,9 @@ abbrev pub plan_of : Settings → List Rec → Kind → ℤ → ℕ → List Pla
 plan_of g h k moment n = plan_by (due g h k moment) (actor k) n
 
 -- what of a plan is for t
-abbrev pub planned : List Planned → ℕ → List Delivery
-planned [] t = []
-planned (p ∷ ps) t = cond (p.session == t) (p.delivery ∷ planned ps t) (planned ps t)
+abbrev pub plan_part : List Planned → ℕ → List Delivery
+plan_part [] t = []
+plan_part (p ∷ ps) t = cond (p.session == t) (p.delivery ∷ plan_part ps t) (plan_part ps t)
 
 -- ---- steps
 
@@ -133,8 +133,8 @@ empty_ledger limit settings = record {
 }
 
 -- one more session
-abbrev pub opened : {O : Type 0} → Shown O → List ℕ → ℤ → O → Shown O
-opened m host moment box =
+abbrev pub after_open : {O : Type 0} → Shown O → List ℕ → ℤ → O → Shown O
+after_open m host moment box =
     record {
       history = fresh_record m.history moment (Opened (sessions m.history + 1) host) ∷ m.history;
       limit = m.limit;
@@ -145,8 +145,8 @@ opened m host moment box =
     }
 
 -- a record was appended, and its deliveries are planned
-abbrev pub begun : {O : Type 0} → Shown O → Kind → ℤ → Shown O
-begun m k moment =
+abbrev pub after_begin : {O : Type 0} → Shown O → Kind → ℤ → Shown O
+after_begin m k moment =
     record {
       history = fresh_record m.history moment k ∷ m.history;
       limit = m.limit;
@@ -172,8 +172,8 @@ delivered_to m p ps box = record {
 }
 
 -- a planned delivery wasn't put: the newest record misses the session
-abbrev pub dropped : {O : Type 0} → Shown O → Planned → List Planned → Shown O
-dropped m p ps = record {
+abbrev pub after_miss : {O : Type 0} → Shown O → Planned → List Planned → Shown O
+after_miss m p ps = record {
   history = miss m.history p.session;
   limit = m.limit;
   settings = m.settings;
@@ -198,7 +198,7 @@ pub record IsMissed {O : Type 0} (refuses : O → PutFault → Type 0) (m : Show
   pub cause : PutFault
   pub here : box_at m.outboxes p.session ≡ Some before
   pub refused : refuses before cause
-  pub book : k ≡ dropped m p ps
+  pub book : k ≡ after_miss m p ps
 
 -- what became of the plan's first delivery: it was put, or missed where its outbox didn't take it
 abbrev pub IsPutNext : {O : Type 0} → (O → Item → O → Type 0) → (O → PutFault → Type 0) → Shown O → List Planned
@@ -217,8 +217,8 @@ IsPutAll {O} accepts refuses m (p ∷ ps) k = (n : Shown O) × (step : Step)
     × IsPutNext accepts refuses m (p ∷ ps) (Some step) n × IsPutAll accepts refuses n ps k
 
 -- the plan is given back
-abbrev pub finished : {O : Type 0} → Shown O → Shown O
-finished m = record {
+abbrev pub after_end : {O : Type 0} → Shown O → Shown O
+after_end m = record {
   history = m.history;
   limit = m.limit;
   settings = m.settings;
@@ -230,12 +230,12 @@ finished m = record {
 -- a record was appended, and all its deliveries were put or missed
 abbrev pub IsDone : {O : Type 0} → (O → Item → O → Type 0) → (O → PutFault → Type 0) → Shown O → Kind → ℤ
     → Shown O → Type 0
-IsDone {O} accepts refuses m kind moment k = (n : Shown O) × IsPutAll accepts refuses (begun m kind moment)
-    (plan_of m.settings m.history kind moment (length m.outboxes)) n × (k ≡ finished n)
+IsDone {O} accepts refuses m kind moment k = (n : Shown O) × IsPutAll accepts refuses (after_begin m kind moment)
+    (plan_of m.settings m.history kind moment (length m.outboxes)) n × (k ≡ after_end n)
 
 -- all records were dropped, and still count
-abbrev pub rolled : {O : Type 0} → Shown O → Shown O
-rolled m = record {
+abbrev pub after_roll : {O : Type 0} → Shown O → Shown O
+after_roll m = record {
   history = m.history;
   limit = record { records = m.limit.records; dropped = length m.history; is_cut = true };
   settings = m.settings;
@@ -253,8 +253,8 @@ abbrev pub kept_of : {O : Type 0} → Shown O → List Rec
 kept_of m = kept_part m.limit.dropped m.history
 
 -- a session and its outbox were given up
-abbrev pub reaped : {O : Type 0} → Shown O → ℕ → Shown O
-reaped m t = record {
+abbrev pub after_reap : {O : Type 0} → Shown O → ℕ → Shown O
+after_reap m t = record {
   history = m.history;
   limit = m.limit;
   settings = m.settings;
@@ -275,13 +275,13 @@ pub record IsLeft {O W : Type 0} (sent : O → List Item) (taken : O → W → L
 -- ---- steps over rings, of which is known what they have room for
 
 -- a planned delivery was put at the end of its ring
-abbrev pub delivered : Shown Waiting → Planned → List Planned → Shown Waiting
-delivered m p ps = delivered_to m p ps (with_put (outbox_at m.outboxes p.session) (item_of m p))
+abbrev pub after_put : Shown Waiting → Planned → List Planned → Shown Waiting
+after_put m p ps = delivered_to m p ps (with_put (outbox_at m.outboxes p.session) (item_of m p))
 
 -- the plan's first delivery was put, or missed where its ring was full
 abbrev pub put_next : Shown Waiting → List Planned → Shown Waiting
 put_next m [] = m
-put_next m (p ∷ ps) = cond (has_room (outbox_at m.outboxes p.session)) (delivered m p ps) (dropped m p ps)
+put_next m (p ∷ ps) = cond (has_room (outbox_at m.outboxes p.session)) (after_put m p ps) (after_miss m p ps)
 
 -- until nothing is left in the plan
 abbrev pub put_all : Shown Waiting → List Planned → Shown Waiting
@@ -289,12 +289,13 @@ put_all m [] = m
 put_all m (p ∷ ps) = put_all (put_next m (p ∷ ps)) ps
 
 -- a record was appended, and all its deliveries were put or missed
-abbrev pub done : Shown Waiting → Kind → ℤ → Shown Waiting
-done m k moment = finished (put_all (begun m k moment) (plan_of m.settings m.history k moment (length m.outboxes)))
+abbrev pub after_all : Shown Waiting → Kind → ℤ → Shown Waiting
+after_all m k moment =
+    after_end (put_all (after_begin m k moment) (plan_of m.settings m.history k moment (length m.outboxes)))
 
 -- the front of a session's ring was taken
-abbrev pub taken : Shown Waiting → ℕ → Shown Waiting
-taken m t =
+abbrev pub after_take : Shown Waiting → ℕ → Shown Waiting
+after_take m t =
     record {
       history = m.history;
       limit = m.limit;
@@ -341,7 +342,7 @@ IsOwed g (r ∷ h) p = (delivery g h r.kind r.moment p.session ≡ p.delivery �
 -- each delivery of a plan is owed by the newest record, to one of n sessions, and no session has two
 abbrev pub IsPlan : Settings → List Rec → ℕ → List Planned → Type 0
 IsPlan g h n [] = Unit {0}
-IsPlan g h n (p ∷ ps) = (0 < p.session) × (p.session ≤ n) × (planned ps p.session ≡ []) × IsOwed g h p
+IsPlan g h n (p ∷ ps) = (0 < p.session) × (p.session ≤ n) × (plan_part ps p.session ≡ []) × IsOwed g h p
     × IsPlan g h n ps
 
 -- what was put into the outbox of session t: it is of that session and of this server, and this history has grown
@@ -354,7 +355,7 @@ pub record IsSent (g : Settings) (h : List Rec) (t : ℕ) (items : List Item) : 
 -- the promise: what was put and what is still in the plan is what the history owes
 pub record IsSound {O : Type 0} (sent : O → List Item) (m : Shown O) : Type 0 where
   pub owed : (t : ℕ) → 0 < t → t ≤ length m.outboxes → is_here m.outboxes t ≡ true
-      → deliveries (sent_by sent (box_at m.outboxes t)) ++ planned m.plan t ≡ owed m.settings m.history t
+      → deliveries (sent_by sent (box_at m.outboxes t)) ++ plan_part m.plan t ≡ owed m.settings m.history t
   pub items : (t : ℕ) → 0 < t → t ≤ length m.outboxes
       → IsSent m.settings m.history t (sent_by sent (box_at m.outboxes t))
   pub reaped : (t : ℕ) → 0 < t → t ≤ length m.outboxes → is_here m.outboxes t ≡ false → gone m.history t ≡ true
@@ -362,7 +363,7 @@ pub record IsSound {O : Type 0} (sent : O → List Item) (m : Shown O) : Type 0 
   pub idle : m.busy ≡ false → m.plan ≡ []
   pub legal : IsLegal m.settings m.history
   pub sessions : sessions m.history ≡ length m.outboxes
-  pub room : length m.history + held m.history ≤ most m.limit
+  pub room : length m.history + kept_total m.history ≤ most m.limit
 
 -- ---- when a session is opened or a line begins
 
@@ -381,7 +382,7 @@ pub record IsTurn {O : Type 0} (m : Shown O) (b : Turn) : Type 0 where
 pub record MayOpen {O : Type 0} (m : Shown O) (moment : ℤ) : Type 0 where
   pub idle : m.busy ≡ false
   pub few : count_here m.outboxes < m.settings.sessions
-  pub room : length m.history + held m.history + 3 ≤ most m.limit
+  pub room : length m.history + kept_total m.history + 3 ≤ most m.limit
   pub in_time : IsMomentAfter (last_moment m.history) moment
 
 -- the first of the refusals whose cause holds, want of memory last
@@ -389,16 +390,16 @@ abbrev pub IsOpenRefusal : {O : Type 0} → Shown O → ℤ → OpenRefusal → 
 IsOpenRefusal m moment opening.Busy = m.busy ≡ true
 IsOpenRefusal m moment opening.TooManySessions = (m.busy ≡ false) × (m.settings.sessions ≤ count_here m.outboxes)
 IsOpenRefusal m moment opening.JournalFull = (m.busy ≡ false) × (count_here m.outboxes < m.settings.sessions)
-    × (most m.limit < length m.history + held m.history + 3)
+    × (most m.limit < length m.history + kept_total m.history + 3)
 IsOpenRefusal m moment opening.BadMoment = (m.busy ≡ false) × (count_here m.outboxes < m.settings.sessions)
-    × (length m.history + held m.history + 3 ≤ most m.limit) × (IsMomentAfter (last_moment m.history) moment → ⊥)
+    × (length m.history + kept_total m.history + 3 ≤ most m.limit) × (IsMomentAfter (last_moment m.history) moment → ⊥)
 IsOpenRefusal m moment opening.Memory = MayOpen m moment
 
 pub record MayBegin {O : Type 0} (m : Shown O) (b : Turn) (moment : ℤ) : Type 0 where
   pub idle : m.busy ≡ false
   pub turn : IsTurn m b
   pub not_shut : shut m.history b.session ≡ false
-  pub room : length m.history + held m.history + 1 ≤ most m.limit
+  pub room : length m.history + kept_total m.history + 1 ≤ most m.limit
   pub in_time : IsMomentAfter (last_moment m.history) moment
 
 abbrev pub IsLineRefusal : {O : Type 0} → Shown O → Turn → ℤ → LineRefusal → Type 0
@@ -406,9 +407,9 @@ IsLineRefusal m b moment accepting.Busy = m.busy ≡ true
 IsLineRefusal m b moment accepting.WrongTurn = (m.busy ≡ false) × (IsTurn m b → ⊥)
 IsLineRefusal m b moment accepting.Shut = (m.busy ≡ false) × IsTurn m b × (shut m.history b.session ≡ true)
 IsLineRefusal m b moment accepting.JournalFull = (m.busy ≡ false) × IsTurn m b × (shut m.history b.session ≡ false)
-    × (most m.limit < length m.history + held m.history + 1)
+    × (most m.limit < length m.history + kept_total m.history + 1)
 IsLineRefusal m b moment accepting.BadMoment = (m.busy ≡ false) × IsTurn m b × (shut m.history b.session ≡ false)
-    × (length m.history + held m.history + 1 ≤ most m.limit) × (IsMomentAfter (last_moment m.history) moment → ⊥)
+    × (length m.history + kept_total m.history + 1 ≤ most m.limit) × (IsMomentAfter (last_moment m.history) moment → ⊥)
 IsLineRefusal m b moment accepting.Memory = MayBegin m b moment
 
 -- a session that was opened and isn't reaped
@@ -446,19 +447,19 @@ pub record MayTick {O : Type 0} (m : Shown O) (moment : ℤ) : Type 0 where
   pub in_time : IsMomentAfter (last_moment m.history) moment
 
 -- somebody is to be pinged at this moment
-abbrev pub IsSomebodyQuiet : {O : Type 0} → Shown O → ℤ → Type 0
-IsSomebodyQuiet m moment = to_ping m.history moment ≡ [] → ⊥
+abbrev pub IsSomebodyIdle : {O : Type 0} → Shown O → ℤ → Type 0
+IsSomebodyIdle m moment = to_ping m.history moment ≡ [] → ⊥
 
 -- there is room for a record beside those that are kept free
 abbrev pub HasRoom : {O : Type 0} → Shown O → Type 0
-HasRoom m = length m.history + held m.history + 1 ≤ most m.limit
+HasRoom m = length m.history + kept_total m.history + 1 ≤ most m.limit
 
 -- a full journal and want of memory come only where somebody is to be pinged
 abbrev pub IsTickRefusal : {O : Type 0} → Shown O → ℤ → TickRefusal → Type 0
 IsTickRefusal m moment ticking.Busy = m.busy ≡ true
 IsTickRefusal m moment ticking.BadMoment = (m.busy ≡ false) × (IsMomentAfter (last_moment m.history) moment → ⊥)
-IsTickRefusal m moment ticking.JournalFull = MayTick m moment × IsSomebodyQuiet m moment × (HasRoom m → ⊥)
-IsTickRefusal m moment ticking.Memory = MayTick m moment × IsSomebodyQuiet m moment × HasRoom m
+IsTickRefusal m moment ticking.JournalFull = MayTick m moment × IsSomebodyIdle m moment × (HasRoom m → ⊥)
+IsTickRefusal m moment ticking.Memory = MayTick m moment × IsSomebodyIdle m moment × HasRoom m
 
 -- want of memory comes only where no plan is out
 abbrev pub IsRollRefusal : {O : Type 0} → Shown O → RollRefusal → Type 0

@@ -1,10 +1,10 @@
 pub mod Legal
 pub mod Ledger
 pub mod Seats
-pub mod Heard
+pub mod FanOut
 pub mod Settings
 pub mod LastHeard
 pub mod Noted
 pub mod Kept
-pub mod Told
+pub mod RingAnswers
 pub mod Read

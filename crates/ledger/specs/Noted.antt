@@ -10,7 +10,7 @@ use Rattle.registration.specs.declared.settings.Settings.{Settings}
 use Rattle.deliveries.specs.Owed.{owed}
 use Rattle.deliveries.specs.Base.{Base, base, dropped_part}
 use Rattle.deliveries.specs.declared.item.Item.{Item}
-use Rattle.ledger.specs.declared.base.Counts.{Counts}
+use Rattle.ledger.specs.declared.base.SessionCounts.{SessionCounts}
 use Rattle.ledger.specs.declared.seat.Seat.{Seat}
 use Rattle.ledger.specs.Ledger.{box_at, sent_by, is_here}
 use Rattle.ledger.specs.Seats.{seat_at, IsThere}
@@ -20,14 +20,14 @@ use Rattle.ledger.specs.Seats.{seat_at, IsThere}
 pub record Noted : Type 0 where
   pub front : List Rec
   pub settings : Settings
-  pub counts : List (ℕ × Counts)
+  pub counts : List (ℕ × SessionCounts)
 
 -- it stands for the base of that history
 abbrev pub base_by : Noted → Base
 base_by b = base b.settings b.front
 
 -- the counts of session t
-abbrev pub counts_at : List (ℕ × Counts) → ℕ → Option Counts
+abbrev pub counts_at : List (ℕ × SessionCounts) → ℕ → Option SessionCounts
 counts_at cs t = lookup (nat_eq t) cs
 
 -- whether it has the counts of session t
@@ -35,25 +35,25 @@ abbrev pub is_noted : Noted → ℕ → Bool
 is_noted b t = is_some (counts_at b.counts t)
 
 -- what is noted of a session is what a history says
-pub record IsCountOf (c : Counts) (g : Settings) (h : List Rec) (t : ℕ) : Type 0 where
+pub record IsCountOf (c : SessionCounts) (g : Settings) (h : List Rec) (t : ℕ) : Type 0 where
   pub accepted : c.accepted ≡ length (accepted h t)
   pub owed : c.owed ≡ length (owed g h t)
   pub since : IsSince c.since h t
 
 -- counts are those of a history
-abbrev pub AreCounts : Settings → List Rec → List (ℕ × Counts) → Type 0
+abbrev pub AreCounts : Settings → List Rec → List (ℕ × SessionCounts) → Type 0
 AreCounts g h cs = (t : ℕ) → IfSome (counts_at cs t) (λ c. IsCountOf c g h t)
 
--- what is noted of a session is what its seat and its outbox say, and since when it is quiet
-pub record IsCountBy {O : Type 0} (c : Counts) (sent : O → List Item) (seats : List Seat) (boxes : List (Option O))
-    (heard : List (ℕ × Since)) (t : ℕ) : Type 0 where
+-- what is noted of a session is what its seat and its outbox say, and since when it is idle
+pub record IsCountBy {O : Type 0} (c : SessionCounts) (sent : O → List Item) (seats : List Seat)
+    (boxes : List (Option O)) (heard : List (ℕ × Since)) (t : ℕ) : Type 0 where
   pub accepted : c.accepted ≡ (seat_at seats t).accepted
   pub owed : c.owed ≡ length (sent_by sent (box_at boxes t))
   pub since : since_at heard t ≡ Some c.since
 
 -- counts are those of each session that is there, and of no other
 pub record AreCountsOf {O : Type 0} (sent : O → List Item) (seats : List Seat) (boxes : List (Option O))
-    (heard : List (ℕ × Since)) (cs : List (ℕ × Counts)) : Type 0 where
+    (heard : List (ℕ × Since)) (cs : List (ℕ × SessionCounts)) : Type 0 where
   pub each : (t : ℕ) → IfSome (counts_at cs t) (λ c. IsThere boxes t × IsCountBy c sent seats boxes heard t)
   pub all : (t : ℕ) → IsThere boxes t → is_some (counts_at cs t) ≡ true
 

@@ -14,5 +14,5 @@ pub record IsReadOf (piece : Piece) (asked : Asked) (label : Option (List ℕ)) 
   pub labelled : label ≡ piece_label piece
 
 -- a label as it counts for a session of these capabilities
-abbrev pub counted : Caps → Option (List ℕ) → Option (List ℕ)
-counted caps label = if takes_labels caps then label else None
+abbrev pub label_for : Caps → Option (List ℕ) → Option (List ℕ)
+label_for caps label = if takes_labels caps then label else None

@@ -16,11 +16,11 @@ use Rattle.ledger.specs.Ledger.{box_at, is_here, count_here, puts, others}
 use Rattle.roster.specs.declared.deed.Deed.{Deed}
 use Rattle.roster.specs.LookBack.{caps, numbers}
 use Rattle.labels_batches.specs.Answers.{tagged_as}
-use Rattle.labels_batches.specs.Rendered.{rendered}
+use Rattle.labels_batches.specs.Rendered.{text_as}
 use Rattle.registration.specs.declared.settings.Settings.{Settings}
 use Rattle.deeds.specs.Ping.{ping_line}
-use Rattle.drafts.specs.declared.verdict.Shown.{Shown}
-use Rattle.drafts.specs.Effects.{heard}
+use Rattle.transactions.specs.declared.verdict.ShownLine.{ShownLine}
+use Rattle.transactions.specs.Effects.{lines_heard}
 use Rattle.deliveries.specs.Owed.{item}
 
 abbrev pub no_seat : Seat
@@ -62,9 +62,9 @@ abbrev pub open_by : Seat → ℕ
 open_by seat = if seat.gone then 0 else (if seat.shut then 0 else 2)
 
 -- numbers in their order, with s at its place among them
-abbrev pub placed : ℕ → List ℕ → List ℕ
-placed s [] = s ∷ []
-placed s (x ∷ xs) = cond (nat_lt x s) (x ∷ placed s xs) (s ∷ x ∷ xs)
+abbrev pub at_its_place : ℕ → List ℕ → List ℕ
+at_its_place s [] = s ∷ []
+at_its_place s (x ∷ xs) = cond (nat_lt x s) (x ∷ at_its_place s xs) (s ∷ x ∷ xs)
 
 -- what stands ready is what the seats say, and there is room to list each session that may be shut
 pub record IsCounted (seats : List Seat) (kept : ℕ) (to_sweep : List ℕ) (most : ℕ) : Type 0 where
@@ -95,12 +95,12 @@ pub record AreSeats (kept : List (ℕ × Seat)) (n held : ℕ) (to_sweep : List 
   pub counted : IsCounted (seats_of kept n) held to_sweep most
 
 -- what a text tells a session, unless it is shut
-abbrev pub told : Bool → ℕ → List ℕ → List Delivery
-told is_shut number bytes = cond is_shut [] (item number bytes)
+abbrev pub unless_shut : Bool → ℕ → List ℕ → List Delivery
+unless_shut is_shut number bytes = cond is_shut [] (item number bytes)
 
 -- what a text tells t, where it was opened and isn't shut
 abbrev pub told_here : List Seat → ℕ → ℕ → List ℕ → List Delivery
-told_here seats number t bytes = told (not (hears seats t)) number bytes
+told_here seats number t bytes = unless_shut (not (hears seats t)) number bytes
 
 -- what a text for each session tells t
 abbrev pub told_to : List Seat → ℕ → (ℕ → List ℕ) → ℕ → List Delivery
@@ -108,14 +108,15 @@ told_to seats number text t = told_here seats number t (text t)
 
 -- what a record tells its own session: where that quits by it, its last item
 abbrev pub told_own : Bool → ℕ → List ℕ → Bool → List Delivery
-told_own is_shut number bytes quits = cond quits (cond is_shut [] (Last number Quit ∷ [])) (told is_shut number bytes)
+told_own is_shut number bytes quits =
+    cond quits (cond is_shut [] (Last number Quit ∷ [])) (unless_shut is_shut number bytes)
 
 -- what t hears of a line that is shown, by the capabilities that it has
-abbrev pub heard_of : List Deed → ℤ → Shown → ℕ → List ℕ
-heard_of fs moment x t = rendered (caps fs t) moment (map (tagged_as None) (heard x.hearers x.line t))
+abbrev pub heard_of : List Deed → ℤ → ShownLine → ℕ → List ℕ
+heard_of fs moment x t = text_as (caps fs t) moment (map (tagged_as None) (lines_heard x.hearers x.line t))
 
 -- and of all lines that are
-abbrev pub heard_text : List Deed → ℤ → List Shown → ℕ → List ℕ
+abbrev pub heard_text : List Deed → ℤ → List ShownLine → ℕ → List ℕ
 heard_text fs moment [] t = []
 heard_text fs moment (x ∷ xs) t = heard_of fs moment x t ++ heard_text fs moment xs t
 

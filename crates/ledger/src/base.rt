@@ -10,14 +10,14 @@ ghost use Rattle.ledger.specs.Noted.{base_by, counts_at, is_noted, AreCounts, Fo
 
 use crate::last_heard::Since;
 use chronicle::{Journal, Moment, SessionId};
-use ghosts::Snapshot;
 use indexmap::IndexMap;
 use roster::Roster;
+use snapshots::Snapshot;
 use std::marker::Model;
 
-/// How many pieces of a session were accepted, how many deliveries it was owed, and since when it is quiet.
+/// How many pieces of a session were accepted, how many deliveries it was owed, and since when it is idle.
 #[derive(Clone, Copy)]
-pub(crate) struct Counts {
+pub(crate) struct SessionCounts {
     pub(crate) accepted: u64,
     pub(crate) owed: u64,
     pub(crate) since: Since,
@@ -28,7 +28,7 @@ pub(crate) struct Counts {
 pub struct Base {
     roster: Roster,
     /// By the numbers of the sessions that weren't reaped.
-    counts: IndexMap<u64, Counts>,
+    counts: IndexMap<u64, SessionCounts>,
     history: Snapshot<Journal>,
 }
 
@@ -59,7 +59,7 @@ pub(crate) fn forget_counts(base: &mut Option<Base>, session: SessionId)
 }
 
 /// The counts of a session.
-fn find_counts(counts: &IndexMap<u64, Counts>, session: SessionId) -> Option<Counts>
+fn find_counts(counts: &IndexMap<u64, SessionCounts>, session: SessionId) -> Option<SessionCounts>
     ensures { result ≡ counts_at counts.now.entries session }
 {
     match counts.get(&session.number()) {
@@ -72,7 +72,11 @@ impl Base {
     ghost use Rattle.std.specs.Option.{is_some};
 
     /// What is known at the end of a journal, by a roster that knows it and by counts of its sessions.
-    pub(crate) fn new(roster: Roster, counts: IndexMap<u64, Counts>, journal: &Journal) -> Base
+    pub(crate) fn new(
+        roster: Roster,
+        counts: IndexMap<u64, SessionCounts>,
+        journal: &Journal,
+    ) -> Base
         requires facts { roster.facts ≡ facts roster.settings journal.now.history }
         requires counts { AreCounts roster.settings journal.now.history counts.entries }
         ensures { result ≡ record {
@@ -107,7 +111,7 @@ impl Base {
     }
 
     /// How many pieces of a session were accepted. `None` where it was opened later, or is reaped.
-    pub fn accepted(&self, session: SessionId) -> Option<u64>
+    pub fn accepted_count(&self, session: SessionId) -> Option<u64>
         ensures count { IfSome result (λ n. n ≡ (base_by self.now).accepted session) }
         ensures noted { is_some result ≡ is_noted self.now session }
     {
@@ -118,7 +122,7 @@ impl Base {
     }
 
     /// How many deliveries a session was owed. `None` where it was opened later, or is reaped.
-    pub fn owed(&self, session: SessionId) -> Option<u64>
+    pub fn owed_count(&self, session: SessionId) -> Option<u64>
         ensures count { IfSome result (λ n. n ≡ (base_by self.now).owed session) }
         ensures noted { is_some result ≡ is_noted self.now session }
     {

@@ -1,13 +1,13 @@
 //! When sessions were last heard of.
 //!
-//! A line moves its session to the front without memory, so those that are quiet stand together at the end: a tick
-//! reads from there until one isn't quiet for long enough. Who was pinged, or is shut, stays in its place and is
+//! A line moves its session to the front without memory, so those that are idle stand together at the end: a tick
+//! reads from there until one isn't idle for long enough. Who was pinged, or is shut, stays in its place and is
 //! passed over. The cache is of the kind that gives up what was used longest ago, and is never full.
 ghost use Rattle.std.specs.Prelude.{◌≡◌, ◌≢◌, ℕ, ℤ, ◌<◌, pos, ◌+ℤ◌, int_le, ◌∷◌, [], length, slice_index_or};
 ghost use Rattle.std.specs.Prelude.{nat_eq, true, false, is_some, Some, None, IfOk, OnOk, OnErr};
 ghost use Rattle.std.specs.List.{IsDistinct};
 ghost use Rattle.std.specs.Map.{keys_of, remove_entry};
-ghost use Rattle.ledger.specs.LastHeard.{since_at, Falls, is_before, is_due, is_overdue, picked};
+ghost use Rattle.ledger.specs.LastHeard.{since_at, Falls, is_before, is_due, is_overdue, who_pass};
 ghost use Rattle.ledger.specs.LastHeard.{with_ping, with_pings, lower, lowest};
 
 use crate::seats::Seats;
@@ -16,13 +16,13 @@ use lru::LruCache;
 use std::alloc::{AllocError, Global};
 use std::marker::Model;
 
-/// For how many milliseconds a session may be quiet before it is pinged.
+/// For how many milliseconds a session may be idle before it is pinged.
 const PING_AFTER: u32 = 120_000;
 
-/// For how many milliseconds a session may be quiet before it is late.
+/// For how many milliseconds a session may be idle before it is late.
 const LATE_AFTER: u32 = 240_000;
 
-/// Since when a session is quiet, and whether it was pinged since.
+/// Since when a session is idle, and whether it was pinged since.
 #[derive(Clone, Copy)]
 pub(crate) struct Since {
     pub(crate) moment: Moment,
@@ -51,7 +51,7 @@ fn lower(best: Option<SessionId>, session: SessionId) -> Option<SessionId>
     }
 }
 
-/// Since when each session is quiet until it is reaped, by its number: whoever was heard of last stands first.
+/// Since when each session is idle until it is reaped, by its number: whoever was heard of last stands first.
 #[derive(Drop)]
 pub(crate) struct LastHeard {
     sessions: LruCache<u64, Since>,
@@ -78,7 +78,7 @@ impl LastHeard {
         })
     }
 
-    /// Since when a session is quiet, unless it is reaped.
+    /// Since when a session is idle, unless it is reaped.
     pub(crate) fn since(&self, session: SessionId) -> Option<Since>
         ensures { result ≡ since_at self.now session }
     {
@@ -159,8 +159,8 @@ impl LastHeard {
     /// Whether a tick at a moment pings somebody.
     pub(crate) fn is_somebody_due(&self, seats: &Seats, moment: Moment) -> bool
         requires { (latest : ℤ) × Falls latest self.now }
-        ensures yes { result ≡ true → picked (is_due seats.now moment) self.now ≢ [] }
-        ensures no { result ≡ false → picked (is_due seats.now moment) self.now ≡ [] }
+        ensures yes { result ≡ true → who_pass (is_due seats.now moment) self.now ≢ [] }
+        ensures no { result ≡ false → who_pass (is_due seats.now moment) self.now ≡ [] }
         ensures once { IsDistinct nat_eq (keys_of self.now) }
     {
         self.once();
@@ -184,7 +184,7 @@ impl LastHeard {
         moment: Moment,
     ) -> Result<Vec<SessionId>, AllocError>
         requires { (latest : ℤ) × Falls latest self.now }
-        ensures due { IfOk result (λ v. v.items ≡ picked (is_due seats.now moment) self.now) }
+        ensures due { IfOk result (λ v. v.items ≡ who_pass (is_due seats.now moment) self.now) }
         ensures once { IsDistinct nat_eq (keys_of self.now) }
     {
         self.once();
@@ -205,7 +205,7 @@ impl LastHeard {
     /// The late session of the lowest number.
     pub(crate) fn late(&self, seats: &Seats, moment: Moment) -> Option<SessionId>
         requires { (latest : ℤ) × Falls latest self.now }
-        ensures late { result ≡ lowest (picked (is_overdue seats.now moment) self.now) }
+        ensures late { result ≡ lowest (who_pass (is_overdue seats.now moment) self.now) }
         ensures once { IsDistinct nat_eq (keys_of self.now) }
     {
         self.once();

@@ -2,9 +2,9 @@
 ghost use Rattle.std.specs.Prelude.{◌≡◌, ℤ, Option};
 ghost use Rattle.chronicle.specs.declared.record.Kind.{Kind};
 ghost use Rattle.outbox.specs.Ring.{Waiting, accepts, refuses};
-ghost use Rattle.ledger.specs.declared.out.Step.{Step};
-ghost use Rattle.ledger.specs.Ledger.{Shown, IsPutNext, IsDone, put_next, done};
-ghost use Rattle.ledger.specs.Told.{told_of};
+ghost use Rattle.ledger.specs.declared.outcomes.Step.{Step};
+ghost use Rattle.ledger.specs.Ledger.{Shown, IsPutNext, IsDone, put_next, after_all};
+ghost use Rattle.ledger.specs.RingAnswers.{told_of};
 
 /// A delivery is put where its ring has room, and missed where it has none.
 pub fn rings_take_what_fits()
@@ -16,5 +16,5 @@ pub fn rings_take_what_fits()
 /// What a record does to a ledger of rings is known beforehand.
 pub fn rings_take_each_record()
     ensures { (m k : Shown Waiting) → (kind : Kind) → (moment : ℤ)
-        → IsDone accepts refuses m kind moment k → k ≡ done m kind moment }
+        → IsDone accepts refuses m kind moment k → k ≡ after_all m kind moment }
 {}

@@ -7,7 +7,7 @@ ghost use Rattle.std.specs.Option.{is_some};
 ghost use Rattle.casemapping.specs.Names.{host_shape};
 ghost use Rattle.chronicle.specs.declared.record.Kind.TheVariants as kind;
 ghost use Rattle.chronicle.specs.History.{sessions, last_moment, shut, gone};
-ghost use Rattle.chronicle.specs.Journal.{IsRoomier, most, numbered, record_at};
+ghost use Rattle.chronicle.specs.Journal.{IsRoomier, most, nth_record, record_at};
 ghost use Rattle.roster.specs.Legal.{AreLegal};
 ghost use Rattle.roster.specs.LookBack.{nick, on};
 ghost use Rattle.deeds.specs.Deeds.{facts};
@@ -17,9 +17,10 @@ ghost use Rattle.ledger.specs.Seats.{IsSeat};
 
 use crate::base::{Base, forget_counts};
 use crate::last_heard::LastHeard;
-use crate::out::{Done, Hung, Left, Plan, Rolled, Step};
 use crate::outboxes::Outboxes;
+use crate::outcomes::{Done, Hung, Plan, Reaped, Rolled, Step};
 use crate::plan::{Planning, Prepared, commit, moment_of_record, prepare_gone};
+use crate::put_queue::PutQueue;
 use crate::refusals::{
     BookFault, HangRefusal, LineRefusal, OpenRefusal, ReapRefusal, RollRefusal, SweepRefusal,
     TakeRefusal,
@@ -27,7 +28,6 @@ use crate::refusals::{
 use crate::seat::Seat;
 use crate::seats::Seats;
 use crate::settings::is_well_set;
-use crate::to_put::ToPut;
 use crate::turn::Turn;
 use chronicle::{Journal, Kind, Moment, Record, RecordNumber, SessionId, Why};
 use deliveries::{Delivery, Item};
@@ -48,7 +48,7 @@ pub struct Ledger<O: Outbox> {
     pub(crate) roster: Roster,
     pub(crate) seats: Seats,
     pub(crate) outboxes: Outboxes<O>,
-    pub(crate) plan: ToPut,
+    pub(crate) plan: PutQueue,
     pub(crate) busy: bool,
     /// What is known of the records that were dropped.
     pub(crate) base: Option<Base>,
@@ -89,11 +89,11 @@ pub(crate) fn reserve(
 }
 
 impl<O: Outbox> Ledger<O> {
-    ghost use Rattle.ledger.specs.Ledger.{empty_ledger, opened, begun, finished, reaped, IsPutNext};
+    ghost use Rattle.ledger.specs.Ledger.{empty_ledger, after_open, after_begin, after_end, after_reap, IsPutNext};
     ghost use Rattle.ledger.specs.Ledger.{IsDone, IsLeft, to_sweep, IsKnown, MayOpen, MayBegin, MayHang};
     ghost use Rattle.ledger.specs.Ledger.{MaySweep, MayReap, IsOpenRefusal, IsLineRefusal, IsHangRefusal};
-    ghost use Rattle.ledger.specs.Ledger.{IsSweepRefusal, IsReapRefusal, IsSound, IsOut, newest_missed, held};
-    ghost use Rattle.ledger.specs.Ledger.{is_here, ended_for, rolled, base_of, IsRollRefusal};
+    ghost use Rattle.ledger.specs.Ledger.{IsSweepRefusal, IsReapRefusal, IsSound, IsOut, newest_missed, kept_total};
+    ghost use Rattle.ledger.specs.Ledger.{is_here, ended_for, after_roll, base_of, IsRollRefusal};
     ghost use Rattle.ledger.specs.Noted.{base_by, is_noted};
 
     /// An empty ledger for at most `limit` records. Names are hashed by keys that everybody knows.
@@ -146,7 +146,7 @@ impl<O: Outbox> Ledger<O> {
             roster,
             seats: Seats::new(alloc),
             outboxes: Outboxes::new(alloc),
-            plan: ToPut::nothing(alloc),
+            plan: PutQueue::nothing(alloc),
             busy: false,
             base: None,
             last_heard,
@@ -155,16 +155,16 @@ impl<O: Outbox> Ledger<O> {
 
     /// How many more records there may be beside those that are kept free.
     pub(crate) fn free(&self) -> usize
-        ensures room { result + length self.now.history + held self.now.history
+        ensures room { result + length self.now.history + kept_total self.now.history
             ≡ most self.now.limit }
         ensures fits { most self.now.limit < 2 ^ 64 }
     {
-        self.journal.most() - self.journal.newest() - self.seats.held()
+        self.journal.most() - self.journal.newest() - self.seats.reserve_count()
     }
 
     /// How many records are kept free.
-    pub(crate) fn held(&self) -> usize
-        ensures kept { result ≡ held self.now.history }
+    pub(crate) fn reserve_count(&self) -> usize
+        ensures kept { result ≡ kept_total self.now.history }
         ensures fits { most self.now.limit < 2 ^ 64 }
     {
         self.journal.most() - self.journal.newest() - self.free()
@@ -222,7 +222,7 @@ impl<O: Outbox> Ledger<O> {
     ) -> Result<(SessionId, Turn), (OpenRefusal, O)>
         requires host { host_shape host ≡ true }
         requires fresh { O.sent outbox ≡ [] }
-        ensures ok { OnOk result (self.new ≡ opened self.old host moment outbox) }
+        ensures ok { OnOk result (self.new ≡ after_open self.old host moment outbox) }
         ensures may { OnOk result (MayOpen self.old moment) }
         ensures session { IfOk result (λ r. (r.0 ≡ sessions self.old.history + 1)
             × (r.1 ≡ record { session = sessions self.old.history + 1; next = 0 })) }
@@ -236,8 +236,8 @@ impl<O: Outbox> Ledger<O> {
         let Ok(told) = host.clone() else {
             return Err((OpenRefusal::Memory, outbox));
         };
-        let room = self.held() + 3;
-        let session = SessionId::new(self.seats.opened() + 1);
+        let room = self.reserve_count() + 3;
+        let session = SessionId::new(self.seats.opened_count() + 1);
         let deed = Deed::Opened { session, host };
         if self.roster.prepare(slice::from_ref(&deed)).is_err()
             || reserve(&mut self.journal, room, 0).is_err()
@@ -318,7 +318,7 @@ impl<O: Outbox> Ledger<O> {
         if self.outboxes.offer(item, place) {
             return Some(Step::Put(hearer));
         }
-        self.seats.shut(hearer);
+        self.seats.set_shut(hearer);
         self.journal.miss(hearer);
         plan.note(hearer);
         Some(Step::Missed(hearer))
@@ -328,7 +328,7 @@ impl<O: Outbox> Ledger<O> {
     pub fn finish(&mut self, plan: Plan) -> Done
         requires out { IsOut self.old plan }
         requires none { self.old.plan ≡ [] }
-        ensures book { self.new ≡ finished self.old }
+        ensures book { self.new ≡ after_end self.old }
         ensures number { result.number ≡ length self.old.history }
         ensures missed { result.missed ≡ newest_missed self.old.history }
         ensures shut { 0 < plan.session → result.shut ≡ shut self.old.history plan.session }
@@ -389,7 +389,7 @@ impl<O: Outbox> Ledger<O> {
         self.check_hang(session, moment)?;
         let number = self.journal.append(moment, Kind::Hung { session, why });
         self.roster.end(session, why);
-        self.seats.shut(session);
+        self.seats.set_shut(session);
         let last = Delivery::Last { number, why };
         let item = Item::new(last, session, &self.journal, self.roster.settings());
         let place = self.outboxes.last_place(session);
@@ -418,7 +418,7 @@ impl<O: Outbox> Ledger<O> {
     /// here; a refusal changes nothing.
     pub fn begin_sweep(&mut self, moment: Moment) -> Result<Option<Plan>, SweepRefusal>
         ensures some { IfOk result (λ o. IfSome o (λ p. (to_sweep self.old.history ≡ Some p.session)
-            × (self.new ≡ begun self.old (kind.Gone p.session) moment) × IsOut self.new p
+            × (self.new ≡ after_begin self.old (kind.Gone p.session) moment) × IsOut self.new p
             × (p.next ≡ None))) }
         ensures none { IfOk result
             (λ o. o ≡ None → (to_sweep self.old.history ≡ None) × (self.new ≡ self.old)) }
@@ -442,12 +442,12 @@ impl<O: Outbox> Ledger<O> {
     fn sweep_one(&mut self, session: SessionId, moment: Moment) -> Result<Plan, AllocError>
         requires may { MaySweep self.old moment }
         requires next { to_sweep self.old.history ≡ Some session }
-        ensures ok { OnOk result (self.new ≡ begun self.old (kind.Gone session) moment) }
+        ensures ok { OnOk result (self.new ≡ after_begin self.old (kind.Gone session) moment) }
         ensures out { IfOk result (λ p. IsOut self.new p) }
         ensures line { IfOk result (λ p. (p.session ≡ session) × (p.next ≡ None)) }
         ensures err { OnErr result (self.new ≡ self.old) }
     {
-        let room = self.held();
+        let room = self.reserve_count();
         let number = RecordNumber::new(self.journal.newest() as u64 + 1);
         let by = Planning {
             alloc: self.alloc,
@@ -501,10 +501,10 @@ impl<O: Outbox> Ledger<O> {
         &mut self,
         turn: Turn,
         taker: O::Taker,
-    ) -> Result<Left, (ReapRefusal, Turn, O::Taker)>
+    ) -> Result<Reaped, (ReapRefusal, Turn, O::Taker)>
         requires own { IfSome (box_at self.old.outboxes turn.session)
             (λ o. O.name o ≡ O.taker_of taker) }
-        ensures ok { OnOk result (self.new ≡ reaped self.old turn.session) }
+        ensures ok { OnOk result (self.new ≡ after_reap self.old turn.session) }
         ensures session { IfOk result (λ l. l.session ≡ turn.session) }
         ensures left { IfOk result
             (λ l. IsLeft O.sent O.taken (box_at self.old.outboxes turn.session) taker l.count) }
@@ -518,7 +518,7 @@ impl<O: Outbox> Ledger<O> {
                 self.last_heard.forget(turn.session);
                 forget_counts(&mut self.base, turn.session);
                 let count = self.outboxes.give_up(turn.session, taker);
-                Ok(Left {
+                Ok(Reaped {
                     session: turn.session,
                     count,
                 })
@@ -547,7 +547,7 @@ impl<O: Outbox> Ledger<O> {
     /// Drops all records, and keeps what has to be known of them. Numbers go on, and there is room for as many
     /// records as at the start. A refusal changes nothing.
     pub fn roll(&mut self) -> Result<Rolled, RollRefusal>
-        ensures ok { OnOk result (self.new ≡ rolled self.old) }
+        ensures ok { OnOk result (self.new ≡ after_roll self.old) }
         ensures dropped { IfOk result
             (λ r. r.dropped + self.old.limit.dropped ≡ length self.old.history) }
         ensures next { IfOk result (λ r. r.next ≡ length self.old.history + 1) }
@@ -581,7 +581,7 @@ impl<O: Outbox> Ledger<O> {
 
     /// The record of this number, if there is one that wasn't dropped.
     pub fn record(&self, number: RecordNumber) -> Option<&Record>
-        ensures { record_at result ≡ numbered self.now.history self.now.limit.dropped number }
+        ensures { record_at result ≡ nth_record self.now.history self.now.limit.dropped number }
     {
         self.journal.get(number)
     }
@@ -675,14 +675,14 @@ impl<O: Outbox> Ledger<O> {
 }
 
 impl Ledger<Ring> {
-    ghost use Rattle.ledger.specs.Ledger.{taken, IsKnown};
-    ghost use Rattle.ledger.specs.Told.{IsTakeRefusal};
+    ghost use Rattle.ledger.specs.Ledger.{after_take, IsKnown};
+    ghost use Rattle.ledger.specs.RingAnswers.{IsTakeRefusal};
 
     /// Takes the item that waits longest for a session. It takes no memory.
     pub fn take(&mut self, session: SessionId) -> Result<Item, TakeRefusal>
         ensures ok { IfOk result
             (λ x. slice_get (outbox_at self.old.outboxes session).queue 0 ≡ Some x) }
-        ensures taken { OnOk result (self.new ≡ taken self.old session) }
+        ensures taken { OnOk result (self.new ≡ after_take self.old session) }
         ensures known { OnOk result (IsKnown self.old session) }
         ensures refusal { IfErr result (λ e. IsTakeRefusal self.old session e) }
         ensures err { OnErr result (self.new ≡ self.old) }

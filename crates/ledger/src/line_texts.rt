@@ -5,11 +5,11 @@
 ghost use Rattle.std.specs.Prelude.{◌≡◌, List, map, true, IfOk, IfSome, OnOk};
 ghost use Rattle.std.specs.List.{flat_map};
 ghost use Rattle.labels_batches.specs.Spellings.{Spelled};
-ghost use Rattle.ledger.specs.Heard.{text_of, spelled_at};
+ghost use Rattle.ledger.specs.FanOut.{text_of, spelled_at};
 
-use crate::heard::Hearing;
+use crate::fan_out::Hearing;
 use chronicle::RecordMoment;
-use deeds::Shown;
+use deeds::ShownLine;
 use labels_batches::{Spellings, Text};
 use line_grammar::Octets;
 use std::alloc::{AllocError, Global};
@@ -36,7 +36,7 @@ pub(crate) struct LineTexts {
 impl Model for LineTexts {
     ghost use Rattle.std.specs.Prelude.{All, List};
     ghost use Rattle.labels_batches.specs.Spellings.{Spelled};
-    ghost use Rattle.ledger.specs.Heard.{IsWhole};
+    ghost use Rattle.ledger.specs.FanOut.{IsWhole};
 
     ghost Value = { List Spelled };
 
@@ -66,7 +66,7 @@ impl LineTexts {
     /// The lines that a record shows.
     pub(crate) fn new(
         alloc: Global,
-        shown: Vec<Shown>,
+        shown: Vec<ShownLine>,
         moment: RecordMoment,
     ) -> Result<LineTexts, AllocError>
         ensures { IfOk result (λ x. x ≡ map (spelled_at moment) shown.items) }
@@ -99,7 +99,7 @@ impl LineTexts {
     }
 
     /// The text that was kept for who hears the same.
-    fn kept(&self, run: &[Hearing]) -> Option<&Text>
+    fn find(&self, run: &[Hearing]) -> Option<&Text>
         ensures { IfSome result (λ t. t.now ≡ flat_map (text_of self.now) run.now) }
     {
         for whole in self.wholes.iter() {
@@ -147,7 +147,7 @@ impl LineTexts {
         if run.len() == 1 {
             return self.text_of(run[0]);
         }
-        if let Some(text) = self.kept(run) {
+        if let Some(text) = self.find(run) {
             return text.clone();
         }
         let text = self.whole_of(run)?;

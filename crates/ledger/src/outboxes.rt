@@ -7,10 +7,10 @@ ghost use Rattle.ledger.specs.Seats.{stands, seat_at, IsSeated, IsThere, MayFoll
 ghost use Rattle.ledger.specs.LastHeard.{since_at};
 ghost use Rattle.ledger.specs.Noted.{AreCountsOf};
 
-use crate::base::Counts;
-use crate::counting::Counting;
+use crate::base::SessionCounts;
+use crate::counted_outbox::CountedOutbox;
+use crate::entry_places::{EntryPlaces, is_in, place_in, place_near, take_out};
 use crate::last_heard::LastHeard;
-use crate::places::{Places, is_in, place_in, place_near, take_out};
 use crate::seats::Seats;
 use chronicle::SessionId;
 use deliveries::Item;
@@ -23,8 +23,8 @@ use std::marker::Model;
 #[derive(Drop)]
 pub(crate) struct Outboxes<O: Outbox> {
     /// By the numbers of their sessions.
-    outboxes: IndexMap<u64, Counting<O>>,
-    places: Places,
+    outboxes: IndexMap<u64, CountedOutbox<O>>,
+    places: EntryPlaces,
     opened: u64,
 }
 
@@ -50,7 +50,7 @@ impl<O: Outbox> Outboxes<O> {
     {
         Outboxes {
             outboxes: IndexMap::new(alloc),
-            places: Places::new(alloc),
+            places: EntryPlaces::new(alloc),
             opened: 0,
         }
     }
@@ -88,7 +88,10 @@ impl<O: Outbox> Outboxes<O> {
     {
         let number = session.number();
         self.places.open(session, self.outboxes.len());
-        let _ = self.outboxes.insert(number, Counting::new(outbox)).unwrap();
+        let _ = self
+            .outboxes
+            .insert(number, CountedOutbox::new(outbox))
+            .unwrap();
         self.opened = number;
     }
 
@@ -117,13 +120,13 @@ impl<O: Outbox> Outboxes<O> {
         outbox.put(item)
     }
 
-    /// What is counted of each session that isn't reaped, by its seat and its outbox, and since when it is quiet.
+    /// What is counted of each session that isn't reaped, by its seat and its outbox, and since when it is idle.
     pub(crate) fn counts(
         &self,
         alloc: Global,
         seats: &Seats,
         last_heard: &LastHeard,
-    ) -> Result<IndexMap<u64, Counts>, AllocError>
+    ) -> Result<IndexMap<u64, SessionCounts>, AllocError>
         requires seated { (t : ℕ) → IsThere self.now.boxes t → IsSeated seats.now t
             × (stands (seat_at seats.now t) ≡ true) }
         requires heard { (t : ℕ) → IsThere self.now.boxes t
@@ -144,7 +147,7 @@ impl<O: Outbox> Outboxes<O> {
             let Some(since) = last_heard.since(session) else {
                 unreachable!();
             };
-            let counted = Counts {
+            let counted = SessionCounts {
                 accepted: seat.accepted,
                 owed: outbox.count(),
                 since,

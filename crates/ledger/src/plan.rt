@@ -6,30 +6,30 @@ ghost use Rattle.std.specs.Prelude.{◌≡◌, ◌≢◌, ℕ, ◌≤◌, ◌<�
 ghost use Rattle.std.specs.Prelude.{slice_index_or};
 ghost use Rattle.std.specs.Prelude.{None, OnOk, IfOk, option_to_list};
 ghost use Rattle.chronicle.specs.History.{is_quit};
-ghost use Rattle.roster.specs.LookBack.{after, caps, opened};
+ghost use Rattle.roster.specs.LookBack.{after, caps, opened_in};
 ghost use Rattle.roster.specs.Legal.{IsOpened, AreNext};
 ghost use Rattle.commands.specs.Asked.{asked_of, asks_for_quit};
 ghost use Rattle.labels_batches.specs.Labels.{label_of};
-ghost use Rattle.labels_batches.specs.Answers.{answered};
-ghost use Rattle.labels_batches.specs.Rendered.{rendered};
-ghost use Rattle.drafts.specs.Words.{deeds_of};
+ghost use Rattle.labels_batches.specs.Answers.{whole_answer};
+ghost use Rattle.labels_batches.specs.Rendered.{text_as};
+ghost use Rattle.transactions.specs.Words.{deeds_of};
 ghost use Rattle.deeds.specs.Departure.{departs};
 ghost use Rattle.deeds.specs.Rows.{of_asked};
-ghost use Rattle.deeds.specs.Deeds.{spelled};
-ghost use Rattle.drafts.specs.Verdicts.{IsVerdict};
+ghost use Rattle.deeds.specs.Deeds.{octets_for};
+ghost use Rattle.transactions.specs.Verdicts.{IsVerdict};
 ghost use Rattle.ledger.specs.Ledger.{others, puts};
 ghost use Rattle.ledger.specs.Seats.{hears, told_own, told_to, heard_text, pinged_text, planned_from, planned_with};
-ghost use Rattle.ledger.specs.Heard.{delivery_of, deliveries_of, heard_by, heard_of, joined};
-ghost use Rattle.ledger.specs.Read.{counted};
-ghost use Rattle.ledger.specs.declared.heard.Hearing.{Hearing};
+ghost use Rattle.ledger.specs.FanOut.{delivery_of, deliveries_of, heard_by, heard_of, one_each};
+ghost use Rattle.ledger.specs.Read.{label_for};
+ghost use Rattle.ledger.specs.declared.fan_out.Hearing.{Hearing};
 
-use crate::heard::{Heard, Hearing, ascend, by_number, hear_one, heard_in_order};
+use crate::fan_out::{Heard, Hearing, ascend, by_number, hear_one, heard_in_order};
 use crate::line_texts::LineTexts;
+use crate::put_queue::PutQueue;
 use crate::read_line::ReadLine;
 use crate::seats::Seats;
-use crate::to_put::ToPut;
 use chronicle::{Moment, RecordMoment, RecordNumber, SessionId, Why};
-use deeds::{Shown, Verdict, decide, decide_gone, ping};
+use deeds::{ShownLine, Verdict, decide, decide_gone, ping};
 use deliveries::Delivery;
 use labels_batches::{Receiver, Spellings, Text, answer_text, takes_labels};
 use line_grammar::Octets;
@@ -77,7 +77,7 @@ impl Placed {
 #[derive(Drop)]
 pub(crate) struct Prepared {
     pub(crate) deeds: Vec<Deed>,
-    pub(crate) plan: ToPut,
+    pub(crate) plan: PutQueue,
     pub(crate) missed: SmallVec<SessionId, 2>,
 }
 
@@ -112,7 +112,7 @@ fn own_text(
     copies: &[Line],
 ) -> Result<Octets, AllocError>
     ensures { IfOk result
-        (λ t. t ≡ rendered (caps by.now.roster.now.facts by.now.actor) by.now.moment (answered
+        (λ t. t ≡ text_as (caps by.now.roster.now.facts by.now.actor) by.now.moment (whole_answer
         by.now.roster.now.settings.server label by.now.number reply.items copies.now)) }
 {
     let server = by.roster.settings().server.as_slice();
@@ -180,7 +180,7 @@ fn plan_others(
     lines: &mut LineTexts,
 ) -> Result<VecDeque<Placed>, AllocError>
     ensures { IfOk result (λ plan. plan.items ≡ deliveries_of by.now.seats.now by.now.actor
-        by.now.number (joined (map (heard_of lines.old) heard.now))) }
+        by.now.number (one_each (map (heard_of lines.old) heard.now))) }
 {
     let least = heard.len() / lines.len().max(1);
     let mut plan = VecDeque::with_capacity(by.alloc, least)?;
@@ -215,7 +215,7 @@ fn plan_line(
 }
 
 /// The deliveries of lines, by session number.
-fn plan_lines(by: &Planning<'_>, shown: Vec<Shown>) -> Result<VecDeque<Placed>, AllocError>
+fn plan_lines(by: &Planning<'_>, shown: Vec<ShownLine>) -> Result<VecDeque<Placed>, AllocError>
     ensures { IfOk result (λ plan. plan.items ≡ others (told_to by.now.seats.now by.now.number
         (heard_text by.now.roster.now.facts by.now.moment shown.items)) by.now.actor 1
         (length by.now.seats.now)) }
@@ -226,24 +226,24 @@ fn plan_lines(by: &Planning<'_>, shown: Vec<Shown>) -> Result<VecDeque<Placed>, 
 }
 
 /// The deliveries of one line, by session number.
-fn plan_sole(by: &Planning<'_>, shown: Shown) -> Result<VecDeque<Placed>, AllocError>
+fn plan_sole(by: &Planning<'_>, shown: ShownLine) -> Result<VecDeque<Placed>, AllocError>
     ensures { IfOk result (λ plan. plan.items ≡ others (told_to by.now.seats.now by.now.number
         (heard_text by.now.roster.now.facts by.now.moment (shown ∷ []))) by.now.actor 1
         (length by.now.seats.now)) }
 {
-    let Shown { hearers, line } = shown;
+    let ShownLine { hearers, line } = shown;
     let hearers = by_number(by.alloc, hearers)?;
     if ascend(hearers.as_slice()) {
         let mut line = Spellings::new(by.alloc, line, by.moment)?;
         return plan_line(by, hearers.as_slice(), &mut line);
     }
     let mut shown = Vec::new(by.alloc);
-    shown.push(Shown { hearers, line })?;
+    shown.push(ShownLine { hearers, line })?;
     plan_lines(by, shown)
 }
 
 /// The deliveries of what others are shown, by session number.
-fn plan_shown(by: &Planning<'_>, shown: Vec<Shown>) -> Result<VecDeque<Placed>, AllocError>
+fn plan_shown(by: &Planning<'_>, shown: Vec<ShownLine>) -> Result<VecDeque<Placed>, AllocError>
     ensures { IfOk result (λ plan. plan.items ≡ others (told_to by.now.seats.now by.now.number
         (heard_text by.now.roster.now.facts by.now.moment shown.items)) by.now.actor 1
         (length by.now.seats.now)) }
@@ -291,15 +291,15 @@ fn plan_own(by: &Planning<'_>, text: Octets, quits: bool) -> Result<Option<Place
 fn plan_for(
     by: &Planning<'_>,
     own: Octets,
-    shown: Vec<Shown>,
+    shown: Vec<ShownLine>,
     quits: bool,
-) -> Result<ToPut, AllocError>
+) -> Result<PutQueue, AllocError>
     ensures { IfOk result (λ plan. plan ≡ planned_with by.now.seats.now by.now.actor by.now.number
         own (heard_text by.now.roster.now.facts by.now.moment shown.items) quits) }
 {
     let others = plan_shown(by, shown)?;
     let first = plan_own(by, own, quits)?;
-    Ok(ToPut::new(first, others))
+    Ok(PutQueue::new(first, others))
 }
 
 /// Plans what a verdict on a record tells, and makes room for those who miss it.
@@ -311,8 +311,8 @@ fn with_room(
 ) -> Result<Prepared, AllocError>
     ensures deeds { IfOk result (λ p. p.deeds.items ≡ verdict.deeds.items) }
     ensures plan { IfOk result (λ p. p.plan ≡ planned_with by.now.seats.now by.now.actor
-        by.now.number (rendered (caps by.now.roster.now.facts by.now.actor) by.now.moment
-        (answered by.now.roster.now.settings.server label
+        by.now.number (text_as (caps by.now.roster.now.facts by.now.actor) by.now.moment
+        (whole_answer by.now.roster.now.settings.server label
         by.now.number verdict.reply.items verdict.copies.items))
         (heard_text by.now.roster.now.facts by.now.moment verdict.others.items) quits) }
     ensures missed { IfOk result
@@ -337,7 +337,7 @@ fn with_room(
 /// The label of a line as it counts for the actor, by the capabilities that it has before the line.
 fn counted_label(by: &Planning<'_>, label: &Option<Octets>) -> Result<Option<Octets>, AllocError>
     ensures { IfOk result
-        (λ l. l ≡ counted (caps by.now.roster.now.facts by.now.actor) label.now) }
+        (λ l. l ≡ label_for (caps by.now.roster.now.facts by.now.actor) label.now) }
 {
     match label {
         Some(label) if takes_labels(by.roster.caps_of(by.actor)) => Ok(Some(label.clone()?)),
@@ -354,11 +354,11 @@ pub(crate) fn prepare_line(
     ensures deeds { IfOk result (λ p. p.0.deeds.items ≡ deeds_of (of_asked
         by.now.roster.now.settings by.now.roster.now.facts by.now.actor (asked_of line.now))) }
     ensures next { IfOk result (λ p. AreNext by.now.roster.now.facts p.0.deeds.items) }
-    ensures opened { IfOk result (λ p. opened (after by.now.roster.now.facts p.0.deeds.items)
-        ≡ opened by.now.roster.now.facts) }
+    ensures opened { IfOk result (λ p. opened_in (after by.now.roster.now.facts p.0.deeds.items)
+        ≡ opened_in by.now.roster.now.facts) }
     ensures quits { IfOk result (λ p. p.1 ≡ is_quit line.now) }
     ensures plan { IfOk result (λ p. p.0.plan ≡ planned_from by.now.seats.now by.now.actor
-        by.now.number (spelled by.now.roster.now.settings by.now.roster.now.facts by.now.actor
+        by.now.number (octets_for by.now.roster.now.settings by.now.roster.now.facts by.now.actor
         (label_of (caps by.now.roster.now.facts by.now.actor) line.now)
         (of_asked by.now.roster.now.settings by.now.roster.now.facts by.now.actor
         (asked_of line.now)) by.now.moment by.now.number) p.1) }
@@ -383,10 +383,11 @@ pub(crate) fn prepare_gone(by: &Planning<'_>) -> Result<Prepared, AllocError>
     ensures deeds { IfOk result
         (λ p. p.deeds.items ≡ deeds_of (departs by.now.roster.now.facts by.now.actor)) }
     ensures next { IfOk result (λ p. AreNext by.now.roster.now.facts p.deeds.items) }
-    ensures opened { IfOk result (λ p. opened (after by.now.roster.now.facts p.deeds.items)
-        ≡ opened by.now.roster.now.facts) }
+    ensures opened { IfOk result (λ p. opened_in (after by.now.roster.now.facts p.deeds.items)
+        ≡ opened_in by.now.roster.now.facts) }
     ensures plan { IfOk result (λ p. p.plan ≡ planned_from by.now.seats.now by.now.actor
-        by.now.number (spelled by.now.roster.now.settings by.now.roster.now.facts by.now.actor None
+        by.now.number (octets_for by.now.roster.now.settings by.now.roster.now.facts by.now.actor
+        None
         (departs by.now.roster.now.facts by.now.actor) by.now.moment by.now.number) false) }
     ensures missed { IfOk result
         (λ p. (p.missed.items ≡ []) × (length p.plan ≤ p.missed.capacity)) }
@@ -399,7 +400,7 @@ pub(crate) fn prepare_gone(by: &Planning<'_>) -> Result<Prepared, AllocError>
 pub(crate) fn prepare_tick(
     by: &Planning<'_>,
     sessions: &[SessionId],
-) -> Result<(ToPut, SmallVec<SessionId, 2>), AllocError>
+) -> Result<(PutQueue, SmallVec<SessionId, 2>), AllocError>
     ensures plan { IfOk result (λ p. p.0 ≡ planned_with by.now.seats.now by.now.actor
         by.now.number [] (pinged_text by.now.roster.now.settings by.now.roster.now.facts
         by.now.moment sessions.now) false) }
@@ -407,7 +408,7 @@ pub(crate) fn prepare_tick(
 {
     let line = ping(by.alloc, by.roster.settings().server.as_slice())?;
     let mut shown = Vec::new(by.alloc);
-    shown.push(Shown {
+    shown.push(ShownLine {
         hearers: Sessions::from_vec(Vec::from_slice(by.alloc, sessions)?),
         line,
     })?;

@@ -10,9 +10,9 @@ ghost use Rattle.std.specs.Option.{is_some};
 ghost use Rattle.std.specs.VecDeque.{deque_capacity};
 ghost use Rattle.roster.specs.LookBack.{numbers};
 ghost use Rattle.ledger.specs.Ledger.{first};
-ghost use Rattle.ledger.specs.Seats.{no_seat, away, stands, seat_at, kept_by, hears, sweeps, placed, IsSeated};
+ghost use Rattle.ledger.specs.Seats.{no_seat, away, stands, seat_at, kept_by, hears, sweeps, at_its_place, IsSeated};
 
-use crate::places::{Places, find_at, find_in, place_in, take_out};
+use crate::entry_places::{EntryPlaces, find_at, find_in, place_in, take_out};
 use crate::seat::Seat;
 use chronicle::SessionId;
 use indexmap::IndexMap;
@@ -26,7 +26,7 @@ use std::marker::Model;
 pub(crate) struct Seats {
     /// By the numbers of their sessions.
     seats: IndexMap<u64, Seat>,
-    places: Places,
+    places: EntryPlaces,
     opened: u64,
     held: usize,
     /// The numbers of those that are shut and aren't gone, in their order.
@@ -54,7 +54,7 @@ fn add_in_order(numbers: &mut VecDeque<u64>, number: u64)
     requires absent { (i : ℕ) → i < length numbers.old.items
         → slice_index_or numbers.old.items i 0 ≢ number }
     requires room { length numbers.old.items < deque_capacity numbers.old }
-    ensures added { numbers.new.items ≡ placed number numbers.old.items }
+    ensures added { numbers.new.items ≡ at_its_place number numbers.old.items }
     ensures room { deque_capacity numbers.old ≤ deque_capacity numbers.new }
 {
     let Err(place) = numbers.binary_search(&number) else {
@@ -74,7 +74,7 @@ fn ends(was: &Seat, shut: bool) -> bool
 }
 
 /// A seat as it is. That it stands holds of each: no number is 2 ^ 64.
-fn standing(seat: Seat) -> Seat
+fn seat_as_it_is(seat: Seat) -> Seat
     ensures same { result ≡ seat }
     ensures stands { stands seat ≡ true }
 {
@@ -88,7 +88,7 @@ impl Seats {
     {
         Seats {
             seats: IndexMap::new(alloc),
-            places: Places::new(alloc),
+            places: EntryPlaces::new(alloc),
             opened: 0,
             held: 0,
             to_sweep: VecDeque::new(alloc),
@@ -96,14 +96,14 @@ impl Seats {
     }
 
     /// How many sessions were opened.
-    pub(crate) fn opened(&self) -> u64
+    pub(crate) fn opened_count(&self) -> u64
         ensures { result ≡ length self.now }
     {
         self.opened
     }
 
     /// How many records are kept free.
-    pub(crate) fn held(&self) -> usize
+    pub(crate) fn reserve_count(&self) -> usize
         ensures { result ≡ sum_by kept_by self.now }
     {
         self.held
@@ -117,7 +117,7 @@ impl Seats {
         ensures none { result ≡ None → IsSeated self.now session → seat_at self.now session ≡ away }
     {
         let seat = find_in(&self.seats, &self.places, session)?;
-        Some(standing(*seat))
+        Some(seat_as_it_is(*seat))
     }
 
     /// Where the seat of a session is that was opened and isn't shut. The session's outbox is at the same place among
@@ -205,7 +205,7 @@ impl Seats {
     }
 
     /// Notes that a session is shut. One that was reaped is so already.
-    pub(crate) fn shut(&mut self, session: SessionId)
+    pub(crate) fn set_shut(&mut self, session: SessionId)
         requires from_1 { 0 < session }
         requires opened { session ≤ length self.old }
         ensures { self.new ≡ slice_set self.old (session - 1) (record {

@@ -1,7 +1,7 @@
 //! Whose line is next.
 ghost use Rattle.std.specs.Prelude.{◌≡◌, ◌+◌, Some};
 
-use crate::out::Plan;
+use crate::outcomes::Plan;
 use chronicle::SessionId;
 use std::marker::Model;
 

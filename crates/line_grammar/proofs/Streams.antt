@@ -11,25 +11,25 @@ use Rattle.line_grammar.proofs.Lengths.{kept_with-kept_of}
 use Rattle.line_grammar.proofs.Spaces.{position_some, position_none}
 use Rattle.std.proofs.lemmas.Bool.{cases_Bool, or_parts, or_right, or_cases}
 use Rattle.std.proofs.lemmas.List.Concat.{flat_map-append}
-use Rattle.line_grammar.specs.Lines.{is_line_end, ended, unfinished, is_too_long}
+use Rattle.line_grammar.specs.Lines.{is_line_end, ended_lines, open_line, is_too_long}
 use Rattle.line_grammar.specs.Lines.{piece_of, lines, left_by, kept_of, Feeds}
 use Rattle.line_grammar.specs.Steps.{kept_with, ended_piece, EndsLine}
 
 -- ---- octets without a line end
 
-ended-none : (h : List ℕ) → list_any is_line_end h ≡ false → ended h ≡ []
+ended-none : (h : List ℕ) → list_any is_line_end h ≡ false → ended_lines h ≡ []
 ended-none [] n = refl
 ended-none (b ∷ bs) n =
     let none = or_parts (is_line_end b) (list_any is_line_end bs) n in
     rw (none.0, ended-none bs none.1) refl
 
-pub unfinished-none : (h : List ℕ) → list_any is_line_end h ≡ false → unfinished h ≡ h
+pub unfinished-none : (h : List ℕ) → list_any is_line_end h ≡ false → open_line h ≡ h
 unfinished-none [] n = refl
 unfinished-none (b ∷ bs) n =
     let none = or_parts (is_line_end b) (list_any is_line_end bs) n in
     rw (n, unfinished-none bs none.1) refl
 
-pub ended-append : (s h : List ℕ) → list_any is_line_end h ≡ false → ended (s ++ h) ≡ ended s
+pub ended-append : (s h : List ℕ) → list_any is_line_end h ≡ false → ended_lines (s ++ h) ≡ ended_lines s
 ended-append [] h n = ended-none h n
 ended-append (b ∷ bs) h n = rw (ended-append bs h n) refl
 
@@ -38,12 +38,12 @@ any-append_none : (s h : List ℕ) → list_any is_line_end h ≡ false → list
 any-append_none [] h n = n
 any-append_none (b ∷ bs) h n = ap (λ c. is_line_end b || c) (any-append_none bs h n)
 
-pub unfinished-append : (s h : List ℕ) → list_any is_line_end h ≡ false → unfinished (s ++ h) ≡ unfinished s ++ h
+pub unfinished-append : (s h : List ℕ) → list_any is_line_end h ≡ false → open_line (s ++ h) ≡ open_line s ++ h
 unfinished-append [] h n = unfinished-none h n
 unfinished-append (b ∷ bs) h n =
     rw (any-append_none bs h n, unfinished-append bs h n)
-    (elim (is_line_end b || list_any is_line_end bs) as (λ c. cond c (unfinished bs ++ h) (b ∷ (unfinished bs ++ h))
-    ≡ cond c (unfinished bs) (b ∷ unfinished bs) ++ h) [ true ↦ refl | false ↦ refl ])
+    (elim (is_line_end b || list_any is_line_end bs) as (λ c. cond c (open_line bs ++ h) (b ∷ (open_line bs ++ h))
+    ≡ cond c (open_line bs) (b ∷ open_line bs) ++ h) [ true ↦ refl | false ↦ refl ])
 
 -- ---- octets with a line end after h
 
@@ -63,34 +63,34 @@ any_end_before (b ∷ bs) x is =
       | inr more ↦ or_right (is_line_end b) _ (any_end_before bs x more)
     ]
 
-pub unfinished-end : (h t : List ℕ) (e : ℕ) → is_line_end e ≡ true → unfinished (h ++ e ∷ t) ≡ unfinished t
+pub unfinished-end : (h t : List ℕ) (e : ℕ) → is_line_end e ≡ true → open_line (h ++ e ∷ t) ≡ open_line t
 unfinished-end [] t e is = rw is refl
 unfinished-end (b ∷ bs) t e is = rw (or_right (is_line_end b) _ (any_end bs t e is)) (unfinished-end bs t e is)
 
-pub unfinished-append_end : (s h t : List ℕ) (e : ℕ) → is_line_end e ≡ true → unfinished (s ++ (h ++ e ∷ t))
-    ≡ unfinished t
-unfinished-append_end s h t e is = ap unfinished (sym (append_assoc s h (e ∷ t))) ∙ unfinished-end (s ++ h) t e is
+pub unfinished-append_end : (s h t : List ℕ) (e : ℕ) → is_line_end e ≡ true → open_line (s ++ (h ++ e ∷ t))
+    ≡ open_line t
+unfinished-append_end s h t e is = ap open_line (sym (append_assoc s h (e ∷ t))) ∙ unfinished-end (s ++ h) t e is
 
 ended-end : (h t : List ℕ) (e : ℕ) → list_any is_line_end h ≡ false → is_line_end e ≡ true
-    → ended (h ++ e ∷ t) ≡ h ∷ ended t
+    → ended_lines (h ++ e ∷ t) ≡ h ∷ ended_lines t
 ended-end [] t e n is = rw is refl
 ended-end (b ∷ bs) t e n is =
     let none = or_parts (is_line_end b) (list_any is_line_end bs) n in
     rw (none.0, ended-end bs t e none.1 is) refl
 
 some_ended : (h : List ℕ) → list_any is_line_end h ≡ true → (line : List ℕ) × (more : List (List ℕ))
-    × (ended h ≡ line ∷ more)
+    × (ended_lines h ≡ line ∷ more)
 some_ended [] a = cc
 some_ended (b ∷ bs) a =
     elim (cases_Bool (is_line_end b)) [
-      | inl is ↦ ([], ended bs, rw is refl)
+      | inl is ↦ ([], ended_lines bs, rw is refl)
       | inr not ↦
           let rest = some_ended bs (rw not at a) in
           (b ∷ rest.0, rest.1, rw (not, rest.2) refl)
     ]
 
 pub ended-append_end : (s h t : List ℕ) (e : ℕ) → list_any is_line_end h ≡ false → is_line_end e ≡ true
-    → ended (s ++ (h ++ e ∷ t)) ≡ ended s ++ (unfinished s ++ h) ∷ ended t
+    → ended_lines (s ++ (h ++ e ∷ t)) ≡ ended_lines s ++ (open_line s ++ h) ∷ ended_lines t
 ended-append_end [] h t e n is = ended-end h t e n is
 ended-append_end (b ∷ bs) h t e n is =
     elim (cases_Bool (is_line_end b)) [
@@ -108,9 +108,9 @@ pub lines-append : (s h : List ℕ) → list_any is_line_end h ≡ false → lin
 lines-append s h n = ap (flat_map piece_of) (ended-append s h n)
 
 pub lines-append_end : (s h t : List ℕ) (e : ℕ) → list_any is_line_end h ≡ false → is_line_end e ≡ true
-    → lines (s ++ (h ++ e ∷ t)) ≡ lines s ++ (piece_of (unfinished s ++ h) ++ lines t)
+    → lines (s ++ (h ++ e ∷ t)) ≡ lines s ++ (piece_of (open_line s ++ h) ++ lines t)
 lines-append_end s h t e n is = ap (flat_map piece_of) (ended-append_end s h t e n is)
-    ∙ flat_map-append piece_of (ended s) _
+    ∙ flat_map-append piece_of (ended_lines s) _
 
 pub ended_piece-kept_of : (line : List ℕ) → ended_piece (kept_of line) ≡ piece_of line
 ended_piece-kept_of [] = refl
@@ -125,22 +125,22 @@ pub fed_within : (stream octets : List ℕ) (kept new : Option (List ℕ)) (out 
 fed_within stream octets kept new out none was is =
     record {
       added = [];
-      keeps = is ∙ ap (λ k. kept_with k octets) was ∙ kept_with-kept_of (unfinished stream) octets
+      keeps = is ∙ ap (λ k. kept_with k octets) was ∙ kept_with-kept_of (open_line stream) octets
           ∙ ap kept_of (sym (unfinished-append stream octets none));
       grows = sym (append-nil out);
       adds = lines-append stream octets none ∙ sym (append-nil (lines stream));
     }
 
 -- octets come where no line is unfinished
-unfinished-fresh : (s octets : List ℕ) → unfinished s ≡ [] → unfinished (s ++ octets) ≡ unfinished octets
+unfinished-fresh : (s octets : List ℕ) → open_line s ≡ [] → open_line (s ++ octets) ≡ open_line octets
 unfinished-fresh [] octets none = refl
 unfinished-fresh (b ∷ bs) octets none =
     elim (cases_Bool (is_line_end b || list_any is_line_end bs)) [
       | inl some ↦ rw (any_end_before (b ∷ bs) octets some) (unfinished-fresh bs octets (rw some at none))
-      | inr isnt ↦ let no : b ∷ unfinished bs ≡ [] = rw isnt at none in absurd (cc)
+      | inr isnt ↦ let no : b ∷ open_line bs ≡ [] = rw isnt at none in absurd (cc)
     ]
 
-ended-fresh : (s octets : List ℕ) → unfinished s ≡ [] → ended (s ++ octets) ≡ ended s ++ ended octets
+ended-fresh : (s octets : List ℕ) → open_line s ≡ [] → ended_lines (s ++ octets) ≡ ended_lines s ++ ended_lines octets
 ended-fresh [] octets none = refl
 ended-fresh (b ∷ bs) octets none =
     elim (cases_Bool (is_line_end b || list_any is_line_end bs)) [
@@ -150,7 +150,7 @@ ended-fresh (b ∷ bs) octets none =
             | inl end ↦ rw (end, rest) refl
             | inr not ↦ let first = some_ended bs (rw not at some) in rw (not, rest, first.2) refl
           ]
-      | inr isnt ↦ let no : b ∷ unfinished bs ≡ [] = rw isnt at none in absurd (cc)
+      | inr isnt ↦ let no : b ∷ open_line bs ≡ [] = rw isnt at none in absurd (cc)
     ]
 
 nothing_kept : (line : List ℕ) → kept_of line ≡ Some [] → line ≡ []
@@ -164,12 +164,13 @@ nothing_kept (b ∷ bs) e =
 pub fed_fresh : (stream octets : List ℕ) (kept next : Option (List ℕ)) (old new : List Piece) → kept ≡ Some []
     → kept ≡ left_by stream → next ≡ left_by octets → new ≡ old ++ lines octets → Feeds stream octets next old new
 fed_fresh stream octets kept next old new is was left grown =
-    let fresh = nothing_kept (unfinished stream) (sym was ∙ is) in
+    let fresh = nothing_kept (open_line stream) (sym was ∙ is) in
     record {
       added = lines octets;
       keeps = left ∙ ap kept_of (sym (unfinished-fresh stream octets fresh));
       grows = grown;
-      adds = ap (flat_map piece_of) (ended-fresh stream octets fresh) ∙ flat_map-append piece_of (ended stream) _;
+      adds = ap (flat_map piece_of) (ended-fresh stream octets fresh)
+          ∙ flat_map-append piece_of (ended_lines stream) _;
     }
 
 -- octets with a line end come: the piece of the line that goes on, then the lines of the rest
@@ -179,13 +180,13 @@ pub fed_over : (stream octets front rest : List ℕ) (kept ended_kept next : Opt
     → new ≡ old ++ (piece ++ lines rest) → Feeds stream octets next old new
 fed_over stream octets front rest kept ended_kept next piece old new ends was is made left grown =
     let whole : stream ++ octets ≡ stream ++ (front ++ ends.line_end ∷ rest) = ap (λ x. stream ++ x) ends.whole in
-    let first : piece ≡ piece_of (unfinished stream ++ front) = made
-    ∙ ap ended_piece (is ∙ ap (λ k. kept_with k front) was ∙ kept_with-kept_of (unfinished stream) front)
-    ∙ ended_piece-kept_of (unfinished stream ++ front) in
+    let first : piece ≡ piece_of (open_line stream ++ front) = made
+    ∙ ap ended_piece (is ∙ ap (λ k. kept_with k front) was ∙ kept_with-kept_of (open_line stream) front)
+    ∙ ended_piece-kept_of (open_line stream ++ front) in
     record {
       added = piece ++ lines rest;
       keeps = left ∙ ap kept_of
-          (sym (ap unfinished whole ∙ unfinished-append_end stream front rest ends.line_end ends.is_end));
+          (sym (ap open_line whole ∙ unfinished-append_end stream front rest ends.line_end ends.is_end));
       grows = grown;
       adds = ap lines whole ∙ lines-append_end stream front rest ends.line_end ends.none_before ends.is_end ∙ ap
           (λ x. lines stream ++ (x ++ lines rest)) (sym first);

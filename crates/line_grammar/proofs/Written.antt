@@ -11,7 +11,7 @@ use Rattle.line_grammar.specs.Grammar.{IsFreeOf, IsGap, IsLetter, IsDigit, IsCom
 use Rattle.line_grammar.specs.Grammar.{IsMiddle, SpellsParameters, none, middle, trailing, fifteenth, Reads}
 use Rattle.line_grammar.proofs.Readings.{is_a_command}
 use Rattle.line_grammar.specs.Spelling.{is_text_octet, is_word_octet, plain_count, plain_parameters, needs_colon}
-use Rattle.line_grammar.specs.Spelling.{IsWritable, spelled_tags, spelled_source, spelled_params, spelling, untagged}
+use Rattle.line_grammar.specs.Spelling.{IsWritable, spelled_tags, spelled_source, spelled_params, spelling, bare_line}
 
 -- ---- text
 
@@ -109,7 +109,7 @@ source_is_free None e = e
 source_is_free (Some s) e = word_free s e
 
 pub spelling_text : (m : Message) → IsWritable m → IsText (spelling m)
-unfolding spelling untagged
+unfolding spelling bare_line
 spelling_text m w =
     let params = are_text m.params w.params in
     let plain = each_text (32 ∷ []) (plain_parameters m.params m.colon) (text_at 32 (omega arith), tt)
@@ -218,7 +218,7 @@ source_again (Some s) f = (f, (32 ∷ [], one_space, refl))
 
 pub written_reads : (m : Message) → IsWritable m → list_any needs_colon (plain_parameters m.params m.colon) ≡ false
     → Reads (spelling m) m
-unfolding spelling untagged
+unfolding spelling bare_line
 written_reads m w plain =
     record {
       tags_part = spelled_tags m.tags;

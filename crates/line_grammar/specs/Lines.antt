@@ -16,14 +16,14 @@ longer b [] = []
 longer b (line ∷ more) = (b ∷ line) ∷ more
 
 -- each line that ends in the stream, empty ones included
-abbrev pub ended : List ℕ → List (List ℕ)
-ended [] = []
-ended (b ∷ bs) = cond (is_line_end b) ([] ∷ ended bs) (longer b (ended bs))
+abbrev pub ended_lines : List ℕ → List (List ℕ)
+ended_lines [] = []
+ended_lines (b ∷ bs) = cond (is_line_end b) ([] ∷ ended_lines bs) (longer b (ended_lines bs))
 
 -- what stands after the last line end
-abbrev pub unfinished : List ℕ → List ℕ
-unfinished [] = []
-unfinished (b ∷ bs) = cond (is_line_end b || list_any is_line_end bs) (unfinished bs) (b ∷ unfinished bs)
+abbrev pub open_line : List ℕ → List ℕ
+open_line [] = []
+open_line (b ∷ bs) = cond (is_line_end b || list_any is_line_end bs) (open_line bs) (b ∷ open_line bs)
 
 -- what stands after the first space: nothing where there is none
 abbrev pub after_space : List ℕ → List ℕ
@@ -49,7 +49,7 @@ piece_of (b ∷ bs) = cond (is_too_long (b ∷ bs)) TooLong (Line (b ∷ bs)) �
 
 -- the lines of a stream
 abbrev pub lines : List ℕ → List Piece
-lines bs = flat_map piece_of (ended bs)
+lines bs = flat_map piece_of (ended_lines bs)
 
 -- what is kept of a line: its octets, or only that it is too long
 abbrev pub kept_of : List ℕ → Option (List ℕ)
@@ -57,7 +57,7 @@ kept_of line = cond (is_too_long line) None (Some line)
 
 -- what a splitter keeps after a stream: the unfinished line, or only that it is too long
 abbrev pub left_by : List ℕ → Option (List ℕ)
-left_by bs = kept_of (unfinished bs)
+left_by bs = kept_of (open_line bs)
 
 -- octets come after a stream: the list of pieces grows by the lines that end in them, and what is kept is left by
 -- the longer stream

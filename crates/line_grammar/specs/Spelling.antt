@@ -47,8 +47,8 @@ spelled_params params colon = flat_map (λ p. 32 ∷ p) (plain_parameters params
     (λ p. 32 ∷ 58 ∷ p) (drop (plain_count params colon) params)
 
 -- a line of these parts, without tags
-unfoldable pub untagged : Option (List ℕ) → List ℕ → List (List ℕ) → Bool → List ℕ
-untagged source command params colon = spelled_source source ++ (command ++ spelled_params params colon)
+unfoldable pub bare_line : Option (List ℕ) → List ℕ → List (List ℕ) → Bool → List ℕ
+bare_line source command params colon = spelled_source source ++ (command ++ spelled_params params colon)
 
 unfoldable pub spelling : Message → List ℕ
-spelling m = spelled_tags m.tags ++ untagged m.source m.command m.params m.colon
+spelling m = spelled_tags m.tags ++ bare_line m.source m.command m.params m.colon

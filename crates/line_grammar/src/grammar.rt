@@ -133,7 +133,7 @@ pub(crate) fn read_parameters(
     let mut rest = skip_spaces(octets);
     while found.len() + 1 < MAX_PARAMETERS && begins_middle(rest) {
         let (middle, more) = split_word(rest);
-        found.push(Octets::copied(alloc, middle)?)?;
+        found.push(Octets::copy_of(alloc, middle)?)?;
         rest = skip_spaces(more);
     }
     let colon = push_last(&mut found, alloc, rest)?;
@@ -158,6 +158,6 @@ fn push_last(found: &mut Vec<Octets>, alloc: Global, octets: &[u8]) -> Result<bo
         [b':', last @ ..] => (last, true),
         last => (last, false),
     };
-    found.push(Octets::copied(alloc, last)?)?;
+    found.push(Octets::copy_of(alloc, last)?)?;
     Ok(colon)
 }

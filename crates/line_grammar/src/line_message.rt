@@ -128,7 +128,7 @@ impl<'a> LineMessage<'a> {
     pub fn into_command(self) -> Octets
         ensures { result ≡ self.entry.command }
     {
-        filled(self.room, self.command)
+        fill(self.room, self.command)
     }
 
     /// The first parameter alone. `None` where there is none.
@@ -136,7 +136,7 @@ impl<'a> LineMessage<'a> {
         ensures { result ≡ slice_get self.entry.params 0 }
     {
         let (first, _) = split_parameter(self.rest, MAX_PARAMETERS - 1)?;
-        Some(filled(self.room, first))
+        Some(fill(self.room, first))
     }
 
     /// The message with copies of its parts.
@@ -145,9 +145,9 @@ impl<'a> LineMessage<'a> {
     {
         let (params, colon) = read_parameters(alloc, self.rest)?;
         Ok(Message {
-            tags: Octets::copied(alloc, self.tags)?,
-            source: copied(alloc, self.source)?,
-            command: Octets::copied(alloc, self.command)?,
+            tags: Octets::copy_of(alloc, self.tags)?,
+            source: copy_of(alloc, self.source)?,
+            command: Octets::copy_of(alloc, self.command)?,
             params,
             colon,
         })
@@ -155,7 +155,7 @@ impl<'a> LineMessage<'a> {
 }
 
 /// Octets in what has room for them.
-fn filled(room: Vec<u8>, octets: &[u8]) -> Octets
+fn fill(room: Vec<u8>, octets: &[u8]) -> Octets
     requires empty { room.items ≡ [] }
     requires room { length octets.now ≤ vec_capacity room }
     ensures { result ≡ octets.now }
@@ -167,11 +167,11 @@ fn filled(room: Vec<u8>, octets: &[u8]) -> Octets
     Octets::from_vec(filled)
 }
 
-fn copied(alloc: Global, octets: Option<&[u8]>) -> Result<Option<Octets>, AllocError>
+fn copy_of(alloc: Global, octets: Option<&[u8]>) -> Result<Option<Octets>, AllocError>
     ensures { IfOk result (λ o. o ≡ option_map (λ s. s.now) octets.entry) }
 {
     match octets {
-        Some(octets) => Ok(Some(Octets::copied(alloc, octets)?)),
+        Some(octets) => Ok(Some(Octets::copy_of(alloc, octets)?)),
         None => Ok(None),
     }
 }

@@ -28,7 +28,7 @@ impl Octets {
     }
 
     /// A copy of a slice.
-    pub fn copied(alloc: Global, octets: &[u8]) -> Result<Octets, AllocError>
+    pub fn copy_of(alloc: Global, octets: &[u8]) -> Result<Octets, AllocError>
         ensures { IfOk result (λ o. o ≡ octets.now) }
     {
         Ok(Octets {

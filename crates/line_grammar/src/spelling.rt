@@ -5,7 +5,7 @@ ghost use Rattle.std.specs.List.{flat_map, list_all, list_any};
 ghost use Rattle.line_grammar.specs.Grammar.{Reads};
 ghost use Rattle.line_grammar.specs.Reading.{reading};
 ghost use Rattle.line_grammar.specs.Spelling.{IsWritable, is_text_octet, is_word_octet, needs_colon, plain_count};
-ghost use Rattle.line_grammar.specs.Spelling.{plain_parameters, spelled_source, spelled_tags, spelling, untagged};
+ghost use Rattle.line_grammar.specs.Spelling.{plain_parameters, spelled_source, spelled_tags, spelling, bare_line};
 ghost use Rattle.line_grammar.specs.declared.spelling.WriteFault.TheVariants.{Memory};
 
 use crate::grammar::{MAX_PARAMETERS, is_command};
@@ -117,7 +117,7 @@ fn spell(alloc: Global, message: &Message) -> Result<Octets, AllocError>
 /// Adds a line of these parts without tags, and without what ends it (RFC 2812, section 2.3.1). With `colon`
 /// the last parameter is spelled with one. Nothing is checked: that the line reads as these parts is the caller's
 /// to see. Where a growth is refused, some of it may have been added.
-#[tactic(auto, unfolding(crate::specs::Spelling::untagged))]
+#[tactic(auto, unfolding(crate::specs::Spelling::bare_line))]
 pub fn push_untagged(
     line: &mut Vec<u8>,
     source: &Option<Octets>,
@@ -126,7 +126,7 @@ pub fn push_untagged(
     colon: bool,
 ) -> Result<(), AllocError>
     ensures { OnOk result
-        (line.new.items ≡ line.old.items ++ untagged source.now command.now params.now colon) }
+        (line.new.items ≡ line.old.items ++ bare_line source.now command.now params.now colon) }
 {
     let (plain, trailing) = params.split_at(count_plain(params, colon));
     push_source(line, source)?;

@@ -6,7 +6,7 @@ ghost use Rattle.std.specs.Vec.{vec_capacity};
 ghost use Rattle.std.specs.Option.{option_to_list};
 ghost use Rattle.std.specs.List.{flat_map, list_any, position};
 ghost use Rattle.line_grammar.specs.Reading.{begins_with};
-ghost use Rattle.line_grammar.specs.Lines.{is_line_end, is_too_long, lines, piece_of, unfinished};
+ghost use Rattle.line_grammar.specs.Lines.{is_line_end, is_too_long, lines, piece_of, open_line};
 ghost use Rattle.line_grammar.specs.Steps.{EndsLine};
 
 use crate::Octets;
@@ -189,7 +189,7 @@ impl Model for Splitter {
 }
 
 impl Splitter {
-    ghost use Rattle.line_grammar.specs.Lines.{left_by, lines, unfinished, Feeds};
+    ghost use Rattle.line_grammar.specs.Lines.{left_by, lines, open_line, Feeds};
     ghost use Rattle.line_grammar.specs.Steps.{kept_with, ended_piece};
 
     /// A splitter at the start of a stream.
@@ -203,7 +203,7 @@ impl Splitter {
     }
 
     /// How many octets of the unfinished line are kept: none where it is too long.
-    pub fn held(&self) -> usize
+    pub fn held_len(&self) -> usize
         ensures exact { MatchOption self.now (result ≡ 0) (λ line. result ≡ length line) }
         ensures bound { result ≤ 4606 }
     {
@@ -323,7 +323,7 @@ fn push_line(alloc: Global, line: &[u8], out: &mut Vec<Piece>) -> Result<(), All
     let piece = if is_too_long(line) {
         Piece::TooLong
     } else {
-        Piece::Line(Octets::copied(alloc, line)?)
+        Piece::Line(Octets::copy_of(alloc, line)?)
     };
     out.push(piece)?;
     Ok(())
@@ -337,7 +337,7 @@ fn push_lines<'a>(
     out: &mut Vec<Piece>,
 ) -> Result<&'a [u8], AllocError>
     ensures lines { IfOk result (λ _. out.new.items ≡ out.old.items ++ lines octets.now) }
-    ensures rest { IfOk result (λ rest. rest.now ≡ unfinished octets.now) }
+    ensures rest { IfOk result (λ rest. rest.now ≡ open_line octets.now) }
     ensures stays { take (length out.old.items) out.new.items ≡ out.old.items }
 {
     let mut rest = octets;

@@ -4,15 +4,15 @@ use Rattle.std.proofs.Common.{filter, length, append_assoc, arith, refl, sym, ap
 use Rattle.std.specs.List.{join_with_byte}
 use Rattle.std.proofs.lemmas.Bool.{cond-false, cond_both, ne_eqb, false≢true}
 use Rattle.message_tags.specs.declared.tag.Tag.{Tag}
-use Rattle.message_tags.specs.Value.{escaped}
-use Rattle.message_tags.specs.ClientOnly.{last_of_each, is_client_only, spelling_of, spellings, joined}
+use Rattle.message_tags.specs.Value.{escapes_of}
+use Rattle.message_tags.specs.ClientOnly.{last_of_each, is_client_only, spelling_of, spellings, plus_tag}
 
 -- tag data with more tags added to it
 abbrev pub joined_onto : List ℕ → List (List ℕ) → List ℕ
 joined_onto tag_data [] = tag_data
-joined_onto tag_data (piece ∷ pieces) = joined_onto (joined tag_data piece) pieces
+joined_onto tag_data (piece ∷ pieces) = joined_onto (plus_tag tag_data piece) pieces
 
-joined-some : (first : ℕ) (tag_data piece : List ℕ) → joined (first ∷ tag_data) piece
+joined-some : (first : ℕ) (tag_data piece : List ℕ) → plus_tag (first ∷ tag_data) piece
     ≡ (first ∷ tag_data) ++ 59 ∷ piece
 joined-some first tag_data piece =
     let filled : length (first ∷ tag_data) ≡ 0 → ⊥ = λ e. omega arith in cond-false _ _ _ (ne_eqb _ 0 filled)
@@ -54,8 +54,8 @@ spelling_is_filled : (tag : Tag) (key : List ℕ) → tag.key ≡ key
 unfolding IsFilled
 spelling_is_filled tag [] is marked = absurd (false≢true marked)
 spelling_is_filled tag (first ∷ rest) is marked =
-    cond_both (length tag.value == 0) (first ∷ rest) ((first ∷ rest) ++ 61 ∷ escaped tag.value) IsFilled
-    (λ none. (first, rest, refl)) (λ some. (first, rest ++ 61 ∷ escaped tag.value, refl))
+    cond_both (length tag.value == 0) (first ∷ rest) ((first ∷ rest) ++ 61 ∷ escapes_of tag.value) IsFilled
+    (λ none. (first, rest, refl)) (λ some. (first, rest ++ 61 ∷ escapes_of tag.value, refl))
 
 filled_by : (marked : Bool) (tag : Tag) (others : List Tag) → is_client_only tag ≡ marked
     → AllFilled (map spelling_of others) → AllFilled (map spelling_of (if marked then tag ∷ others else others))

@@ -3,7 +3,7 @@ use Rattle.std.proofs.Common.{◌≡◌, ℕ, Bool, true, false, not, ◌&&◌, 
 use Rattle.std.proofs.Common.{List, [], ◌∷◌, append_assoc, inl, inr, refl, sym, ap, subst, ◌∙◌}
 use Rattle.std.proofs.lemmas.Bool.Decides.{eqb_tells}
 use Rattle.std.proofs.lemmas.Bool.{cond-false, ne_eqb}
-use Rattle.message_tags.specs.Value.{value, left_of, escape_of, escaped}
+use Rattle.message_tags.specs.Value.{value, left_of, escape_of, escapes_of}
 
 value-plain : (octet : ℕ) (rest : List ℕ) → (octet ≡ 92 → ⊥) → value (octet ∷ rest) ≡ octet ∷ value rest
 value-plain octet [] plain = cond-false _ _ _ (ne_eqb octet 92 plain)
@@ -46,6 +46,7 @@ value-escape_of octet rest =
     (λ _. means_by 92 _ _ octet rest refl (λ plain. means_by 13 _ _ octet rest refl
     (λ _. means_by 10 _ _ octet rest refl (λ _. value-plain octet rest plain)))))
 
-pub value-escaped : (octets : List ℕ) → value (escaped octets) ≡ octets
+pub value-escaped : (octets : List ℕ) → value (escapes_of octets) ≡ octets
 value-escaped [] = refl
-value-escaped (octet ∷ octets) = value-escape_of octet (escaped octets) ∙ ap (λ xs. octet ∷ xs) (value-escaped octets)
+value-escaped (octet ∷ octets) = value-escape_of octet (escapes_of octets)
+    ∙ ap (λ xs. octet ∷ xs) (value-escaped octets)

@@ -2,7 +2,7 @@
 use Rattle.std.specs.Prelude.{ℕ, ◌==◌, nat_eq, Bool, not, List, [], ◌∷◌, ◌++◌, map, filter, length, if◌then◌else◌}
 use Rattle.std.specs.List.{list_any, starts_with, join_with_byte}
 use Rattle.message_tags.specs.declared.tag.Tag.{Tag}
-use Rattle.message_tags.specs.Value.{escaped}
+use Rattle.message_tags.specs.Value.{escapes_of}
 use Rattle.message_tags.specs.Tags.{has_key}
 
 -- no later tag has its key
@@ -20,7 +20,7 @@ is_client_only tag = starts_with nat_eq tag.key (43 ∷ [])
 
 -- `key=value`, or the key alone where the value is empty
 abbrev pub spelling_of : Tag → List ℕ
-spelling_of tag = if length tag.value == 0 then tag.key else tag.key ++ 61 ∷ escaped tag.value
+spelling_of tag = if length tag.value == 0 then tag.key else tag.key ++ 61 ∷ escapes_of tag.value
 
 abbrev pub spellings : List Tag → List (List ℕ)
 spellings tags = map spelling_of (filter is_client_only (last_of_each tags))
@@ -30,5 +30,5 @@ unfoldable pub client_only_data : List Tag → List ℕ
 client_only_data tags = join_with_byte 59 (spellings tags)
 
 -- what comes of tag data where one more tag is added to it: a word of the private steps
-abbrev pub joined : List ℕ → List ℕ → List ℕ
-joined tag_data spelling = if length tag_data == 0 then spelling else tag_data ++ 59 ∷ spelling
+abbrev pub plus_tag : List ℕ → List ℕ → List ℕ
+plus_tag tag_data spelling = if length tag_data == 0 then spelling else tag_data ++ 59 ∷ spelling

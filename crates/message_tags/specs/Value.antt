@@ -34,5 +34,5 @@ escape_of octet =
     else if octet == 10 then 92 ∷ 110 ∷ []
     else octet ∷ []
 
-abbrev pub escaped : List ℕ → List ℕ
-escaped octets = flat_map escape_of octets
+abbrev pub escapes_of : List ℕ → List ℕ
+escapes_of octets = flat_map escape_of octets

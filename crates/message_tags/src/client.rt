@@ -3,7 +3,7 @@ ghost use Rattle.std.specs.Prelude.{◌≡◌, ◌&&◌, not, ◌++◌, if◌the
 ghost use Rattle.std.specs.List.{list_any};
 ghost use Rattle.message_tags.specs.Tags.{has_key};
 ghost use Rattle.message_tags.specs.ClientOnly.{is_client_only, is_last, last_of_each};
-ghost use Rattle.message_tags.specs.ClientOnly.{spelling_of, joined, client_only_data};
+ghost use Rattle.message_tags.specs.ClientOnly.{spelling_of, plus_tag, client_only_data};
 
 use crate::escaping::push_escaped;
 use crate::list::Tags;
@@ -39,7 +39,7 @@ fn push_spelling(tag_data: &mut Vec<u8>, tag: &Tag) -> Result<(), AllocError>
 }
 
 fn push_joined(tag_data: &mut Vec<u8>, tag: &Tag) -> Result<(), AllocError>
-    ensures { OnOk result (tag_data.new.items ≡ joined tag_data.old.items (spelling_of tag.now)) }
+    ensures { OnOk result (tag_data.new.items ≡ plus_tag tag_data.old.items (spelling_of tag.now)) }
 {
     if !tag_data.is_empty() {
         tag_data.push(b';')?;
@@ -50,7 +50,7 @@ fn push_joined(tag_data: &mut Vec<u8>, tag: &Tag) -> Result<(), AllocError>
 fn push_if_counted(tag_data: &mut Vec<u8>, tag: &Tag, later: &[Tag]) -> Result<(), AllocError>
     ensures { OnOk result (tag_data.new.items
         ≡ (if is_client_only tag.now && is_last tag.now later.now
-        then joined tag_data.old.items (spelling_of tag.now) else tag_data.old.items)) }
+        then plus_tag tag_data.old.items (spelling_of tag.now) else tag_data.old.items)) }
 {
     if is_marked(tag) && !contains_key(later, tag.key.as_slice()) {
         push_joined(tag_data, tag)?;

@@ -1,6 +1,6 @@
 //! Values as they stand in a line (IRCv3 message-tags, "Escaping values").
 ghost use Rattle.std.specs.Prelude.{◌≡◌, ◌+◌, ◌∷◌, ◌++◌, List, ℕ, length, if◌then◌else◌, IfOk, OnOk};
-ghost use Rattle.message_tags.specs.Value.{value, left_of, escaped, meaning_of, escape_of};
+ghost use Rattle.message_tags.specs.Value.{value, left_of, escapes_of, meaning_of, escape_of};
 
 use line_grammar::Octets;
 use std::alloc::{AllocError, Global};
@@ -86,7 +86,7 @@ fn push_octet(line: &mut Vec<u8>, octet: u8) -> Result<(), AllocError>
 
 /// Adds a value at the end as it may stand in a line.
 pub fn push_escaped(line: &mut Vec<u8>, value: &[u8]) -> Result<(), AllocError>
-    ensures { OnOk result (line.new.items ≡ line.old.items ++ escaped value.now) }
+    ensures { OnOk result (line.new.items ≡ line.old.items ++ escapes_of value.now) }
 {
     for octet in value {
         push_octet(line, *octet)?;
@@ -97,7 +97,7 @@ pub fn push_escaped(line: &mut Vec<u8>, value: &[u8]) -> Result<(), AllocError>
 /// A value as it may stand in a line: each `;`, space, backslash, CR and LF as its escape (IRCv3
 /// message-tags, "Escaping values").
 pub fn escape(alloc: Global, value: &[u8]) -> Result<Octets, AllocError>
-    ensures { IfOk result (λ octets. octets ≡ escaped value.now) }
+    ensures { IfOk result (λ octets. octets ≡ escapes_of value.now) }
 {
     let mut octets = Vec::new(alloc);
     push_escaped(&mut octets, value)?;
@@ -106,5 +106,5 @@ pub fn escape(alloc: Global, value: &[u8]) -> Result<Octets, AllocError>
 
 /// What an escaped value means is the value.
 pub fn unescape_undoes_escape()
-    ensures { (v : List ℕ) → value (escaped v) ≡ v }
+    ensures { (v : List ℕ) → value (escapes_of v) ≡ v }
 {}

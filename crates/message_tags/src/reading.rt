@@ -35,7 +35,7 @@ fn push_tag(alloc: Global, tags: &mut Vec<Tag>, part: &[u8]) -> Result<(), Alloc
     let (key, raw_value) = key_and_raw_value(part);
     if is_key(key) && is_text(raw_value) {
         tags.push(Tag {
-            key: Octets::copied(alloc, key)?,
+            key: Octets::copy_of(alloc, key)?,
             value: unescape(alloc, raw_value)?,
         })?;
     }

@@ -15,10 +15,10 @@ use Rattle.channel_state.specs.declared.change.Change.TheVariants.{LimitSet, Ban
 use Rattle.roster.specs.declared.deed.Deed.{Deed}
 use Rattle.roster.specs.declared.deed.Deed.TheVariants.{Opened, NickSet, UserSet, Enrolled}
 use Rattle.roster.specs.declared.deed.Deed.TheVariants.{InvisibleSet, ChannelMade, Changed}
-use Rattle.drafts.specs.declared.effect.Effect.{Effect}
-use Rattle.drafts.specs.declared.effect.Effect.TheVariants.{Establish, Answer, Show}
-use Rattle.drafts.specs.Lines.{prefix}
-use Rattle.mode_commands.specs.Parameters.{completed, is_key, limit_of}
+use Rattle.transactions.specs.declared.effect.Effect.{Effect}
+use Rattle.transactions.specs.declared.effect.Effect.TheVariants.{Establish, Answer, Show}
+use Rattle.transactions.specs.Lines.{prefix}
+use Rattle.mode_commands.specs.Parameters.{full_mask, is_key, limit_of}
 use Rattle.mode_commands.specs.Steps.{flag_of, step}
 use Rattle.mode_commands.specs.Lines.{letters_set}
 use Rattle.mode_commands.specs.Modes.{modes}
@@ -58,7 +58,7 @@ six_letters : says 1 meets (codes "#A") (codes "+vxi-n+tk" ∷ codes "BO" ∷ co
     ∷ Establish (Changed (codes "#a") (FlagSet NoOutside false))
     ∷ Establish (Changed (codes "#a") (KeySet (Some (codes "secret")))) ∷ Show (1 ∷ 2 ∷ []) (line (codes "al!a@h1")
     (codes "MODE") (codes "#a" ∷ codes "+vi-n+k" ∷ codes "bo" ∷ codes "secret" ∷ []) false) ∷ []
-unfolding fold_of is_same prefix completed is_key flag_of step
+unfolding fold_of is_same prefix full_mask is_key flag_of step
 six_letters = refl
 
 -- nothing is shown where nothing changed; from the fifth letter with a parameter such letters are skipped with them
@@ -66,14 +66,14 @@ without_effect : (says 1 meets (codes "#a") (codes "+nt-vl" ∷ codes "bo" ∷ [
     × (says 1 meets (codes "#a") (codes "-vvvvv+i" ∷ codes "bo" ∷ codes "bo" ∷ codes "bo"
     ∷ codes "bo" ∷ codes "dee" ∷ []) ≡ Establish (Changed (codes "#a") (FlagSet InviteOnly true))
     ∷ Show (1 ∷ 2 ∷ []) (line (codes "al!a@h1") (codes "MODE") (codes "#a" ∷ codes "+i" ∷ []) false) ∷ [])
-unfolding fold_of is_same prefix completed is_key flag_of step
+unfolding fold_of is_same prefix full_mask is_key flag_of step
 without_effect = (refl, refl)
 
 -- who gives its rank up in a line takes the letters after it all the same
 gives_up : says 1 meets (codes "#a") (codes "-ol" ∷ codes "al" ∷ [])
     ≡ Establish (Changed (codes "#a") (RankSet 1 Operator false)) ∷ Show (1 ∷ 2 ∷ [])
     (line (codes "al!a@h1") (codes "MODE") (codes "#a" ∷ codes "-o" ∷ codes "al" ∷ []) false) ∷ []
-unfolding fold_of is_same prefix completed is_key flag_of step
+unfolding fold_of is_same prefix full_mask is_key flag_of step
 gives_up = refl
 
 -- ---- bans
@@ -82,23 +82,23 @@ abbrev bans : List Deed
 bans = Changed (codes "#a") (BanSet (codes "*!e@h9")) ∷ Changed (codes "#a") (BanSet (codes "dee!*@*")) ∷ meets
 
 -- masks are completed, and are one however they are spelled
-masks : (completed (codes "x") ≡ codes "x!*@*") × (completed (codes "x@y") ≡ codes "*!x@y")
-    × (completed (codes "x!y") ≡ codes "x!y@*") × (completed (codes "x!y@z") ≡ codes "x!y@z")
-    × (completed (codes "a@b!c") ≡ codes "a@b!c@*")
-unfolding completed
+masks : (full_mask (codes "x") ≡ codes "x!*@*") × (full_mask (codes "x@y") ≡ codes "*!x@y")
+    × (full_mask (codes "x!y") ≡ codes "x!y@*") × (full_mask (codes "x!y@z") ≡ codes "x!y@z")
+    × (full_mask (codes "a@b!c") ≡ codes "a@b!c@*")
+unfolding full_mask
 masks = (refl, refl, refl, refl, refl)
 
 same_mask : says 1 bans (codes "#a") (codes "+b-b" ∷ codes "DEE" ∷ codes "E@h9" ∷ [])
     ≡ Establish (Changed (codes "#a") (BanLifted (codes "*!E@h9"))) ∷ Show (1 ∷ 2 ∷ [])
     (line (codes "al!a@h1") (codes "MODE") (codes "#a" ∷ codes "-b" ∷ codes "*!E@h9" ∷ []) false) ∷ []
-unfolding fold_of is_same prefix completed is_key flag_of step
+unfolding fold_of is_same prefix full_mask is_key flag_of step
 same_mask = refl
 
 -- all are told the bans
 ban_list : says 2 bans (codes "#a") (changes (codes "+b"))
     ≡ told (codes "bo") (BanList (codes "#a") (codes "dee!*@*")) ∷ told (codes "bo")
     (BanList (codes "#a") (codes "*!e@h9")) ∷ told (codes "bo") (EndOfBanList (codes "#a")) ∷ []
-unfolding fold_of is_same prefix completed is_key flag_of step
+unfolding fold_of is_same prefix full_mask is_key flag_of step
 ban_list = refl
 
 -- ---- keys and limits
@@ -116,7 +116,7 @@ locked = Changed (codes "#a") (LimitSet (Some 7)) ∷ Changed (codes "#a") (KeyS
 what_is_set : (says 2 locked (codes "#a") [] ≡ told (codes "bo") (ChannelModeIs (codes "#a")
     (codes "+klnt") (codes "secret" ∷ decimal 7 ∷ [])) ∷ []) × (says 3 locked (codes "#a") []
     ≡ told (codes "cy") (ChannelModeIs (codes "#a") (codes "+klnt") (codes "*" ∷ decimal 7 ∷ [])) ∷ [])
-unfolding fold_of is_same prefix completed is_key flag_of step letters_set
+unfolding fold_of is_same prefix full_mask is_key flag_of step letters_set
 what_is_set = (refl, refl)
 
 -- and isn't shown where it is taken away
@@ -125,7 +125,7 @@ key_and_limit : says 1 locked (codes "#a") (codes "-lk+l" ∷ codes "any" ∷ co
     ∷ Establish (Changed (codes "#a") (LimitSet (Some 10)))
     ∷ Show (1 ∷ 2 ∷ []) (line (codes "al!a@h1") (codes "MODE")
     (codes "#a" ∷ codes "-lk+l" ∷ codes "*" ∷ decimal 10 ∷ []) false) ∷ []
-unfolding fold_of is_same prefix completed is_key flag_of step
+unfolding fold_of is_same prefix full_mask is_key flag_of step
 key_and_limit = refl
 
 -- ---- who is refused
@@ -134,7 +134,7 @@ refused : (says 2 meets (codes "#a") (changes (codes "+")) ≡ told (codes "bo")
     × (says 1 meets (codes "#a") (changes (codes "+")) ≡ [])
     × (says 1 meets (codes "#b") [] ≡ told (codes "al") (NoSuchChannel (codes "#b")) ∷ [])
     × (says 1 meets (codes "#a") (changes (codes "+o")) ≡ told (codes "al") (NeedMoreParams (codes "MODE")) ∷ [])
-unfolding fold_of is_same prefix completed is_key flag_of step
+unfolding fold_of is_same prefix full_mask is_key flag_of step
 refused = (refl, refl, refl, refl)
 
 -- ---- users

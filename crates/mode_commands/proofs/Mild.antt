@@ -6,23 +6,23 @@ use Rattle.channel_state.specs.declared.modes.Flag.{Flag}
 use Rattle.channel_state.specs.declared.change.Rank.{Rank}
 use Rattle.channel_state.specs.declared.change.Rank.TheVariants.{Operator, Voice}
 use Rattle.channel_state.specs.declared.change.Change.TheVariants.{RankSet}
-use Rattle.channel_state.specs.State.{State, among, is_set, changed}
+use Rattle.channel_state.specs.State.{State, among, is_set, with_change}
 use Rattle.roster.specs.declared.deed.Deed.{Deed}
-use Rattle.roster.specs.LookBack.{nick, found}
-use Rattle.drafts.specs.Lines.{title}
+use Rattle.roster.specs.LookBack.{nick, user_named}
+use Rattle.transactions.specs.Lines.{title}
 use Rattle.mode_commands.specs.declared.letters.ModeChange.{ModeChange}
-use Rattle.mode_commands.specs.declared.steps.Step.{Step}
-use Rattle.mode_commands.specs.Parameters.{completed, is_key, limit_of}
+use Rattle.mode_commands.specs.declared.steps.ModeStep.{ModeStep}
+use Rattle.mode_commands.specs.Parameters.{full_mask, is_key, limit_of}
 use Rattle.mode_commands.specs.Steps.{IsMild, agree, has_ban, has_key, has_limit, has_rank, flag_of, flag_step}
 use Rattle.mode_commands.specs.Steps.{member_step, user_step, rank_step, mask_step, ban_step, key_set, key_given}
 use Rattle.mode_commands.specs.Steps.{key_step, limit_set, limit_given, limit_step, step}
 
 -- of two steps, by a test
-either : (k : State) (b : Bool) (x y : Step) → IsMild k x → IsMild k y → IsMild k (if b then x else y)
+either : (k : State) (b : Bool) (x y : ModeStep) → IsMild k x → IsMild k y → IsMild k (if b then x else y)
 either k true x y p q = p
 either k false x y p q = q
 
-either_known : (k : State) (b : Bool) (x y : Step) → IsMild k x → (b ≡ false → IsMild k y)
+either_known : (k : State) (b : Bool) (x y : ModeStep) → IsMild k x → (b ≡ false → IsMild k y)
     → IsMild k (if b then x else y)
 either_known k true x y p q = p
 either_known k false x y p q = q refl
@@ -31,7 +31,7 @@ is_so : (b : Bool) → not b ≡ false → b ≡ true
 is_so true e = refl
 is_so false e = absurd (let f : true ≡ false = e in cc)
 
-same_members : (t : ℕ) (rank : Rank) (on : Bool) (k : State) → (changed (RankSet t rank on) k).members ≡ k.members
+same_members : (t : ℕ) (rank : Rank) (on : Bool) (k : State) → (with_change (RankSet t rank on) k).members ≡ k.members
 same_members t Operator on k = refl
 same_members t Voice on k = refl
 
@@ -51,7 +51,7 @@ user_mild fs k rank a n (Some t) = member_mild k rank a (title (nick fs t)) t
 rank_mild : (fs : List Deed) (k : State) (rank : Rank) (a : ModeChange) (o : Option (List ℕ))
     → IsMild k (rank_step fs k rank a o)
 rank_mild fs k rank a None = tt
-rank_mild fs k rank a (Some n) = user_mild fs k rank a n (found fs n)
+rank_mild fs k rank a (Some n) = user_mild fs k rank a n (user_named fs n)
 
 mask_mild : (k : State) (a : ModeChange) (mask : List ℕ) → IsMild k (mask_step k a mask)
 mask_mild k a mask = either k a.on _ _ (either k (has_ban k mask || nat_le 60 (length k.bans)) _ _ tt (tt, refl))
@@ -59,7 +59,7 @@ mask_mild k a mask = either k a.on _ _ (either k (has_ban k mask || nat_le 60 (l
 
 ban_mild : (k : State) (a : ModeChange) (o : Option (List ℕ)) → IsMild k (ban_step k a o)
 ban_mild k a None = tt
-ban_mild k a (Some mask) = either k (needs_colon mask) _ _ tt (mask_mild k a (completed mask))
+ban_mild k a (Some mask) = either k (needs_colon mask) _ _ tt (mask_mild k a (full_mask mask))
 
 key_set_mild : (k : State) (a : ModeChange) (key : List ℕ) → IsMild k (key_set k a key)
 key_set_mild k a key = either k (has_key k.modes.key key) _ _ tt (tt, refl)

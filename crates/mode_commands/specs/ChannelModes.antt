@@ -9,15 +9,15 @@ use Rattle.channel_state.specs.State.{among}
 use Rattle.roster.specs.declared.deed.Deed.{Deed}
 use Rattle.roster.specs.declared.deed.Deed.TheVariants.{Changed}
 use Rattle.roster.specs.LookBack.{after}
-use Rattle.drafts.specs.declared.effect.Effect.{Effect}
-use Rattle.drafts.specs.declared.effect.Effect.TheVariants.{Establish, Show}
-use Rattle.drafts.specs.Effects.{deeds_of}
-use Rattle.drafts.specs.Lines.{prefix}
-use Rattle.drafts.specs.Replies.{tells, tells_all}
-use Rattle.drafts.specs.Seen.{Seen}
+use Rattle.transactions.specs.declared.effect.Effect.{Effect}
+use Rattle.transactions.specs.declared.effect.Effect.TheVariants.{Establish, Show}
+use Rattle.transactions.specs.Effects.{deeds_of}
+use Rattle.transactions.specs.Lines.{prefix}
+use Rattle.transactions.specs.Replies.{tells, tells_all}
+use Rattle.transactions.specs.Seen.{Seen}
 use Rattle.mode_commands.specs.declared.letters.ModeChange.{ModeChange}
-use Rattle.mode_commands.specs.declared.steps.Step.{Step}
-use Rattle.mode_commands.specs.declared.steps.Step.TheVariants as step
+use Rattle.mode_commands.specs.declared.steps.ModeStep.{ModeStep}
+use Rattle.mode_commands.specs.declared.steps.ModeStep.TheVariants as step
 use Rattle.mode_commands.specs.declared.steps.Refusal.{Refusal}
 use Rattle.mode_commands.specs.declared.steps.Refusal.TheVariants.{LacksParameter, Nobody, NotMember, Unknown}
 use Rattle.mode_commands.specs.Letters.{asked_changes}
@@ -43,13 +43,13 @@ refusal_numeric c (NotMember n) = UserNotInChannel n c
 refusal_numeric c (Unknown letter) = UnknownMode letter c
 
 -- a letter of a channel named c is refused, has no effect, or changes it
-abbrev pub does : Settings → ℕ → List ℕ → List Deed → Step → List Effect
+abbrev pub does : Settings → ℕ → List ℕ → List Deed → ModeStep → List Effect
 does g s c fs step.Nothing = []
 does g s c fs (step.Refused why) = tells g fs s (refusal_numeric c why) ∷ []
 does g s c fs (step.Changes x shown) = Establish (Changed c x) ∷ []
 
 -- letters in turn, each over the facts that those before it leave
-abbrev pub in_turn : Settings → ℕ → List ℕ → List Deed → List Step → List Effect
+abbrev pub in_turn : Settings → ℕ → List ℕ → List Deed → List ModeStep → List Effect
 in_turn g s c fs [] = []
 in_turn g s c fs (x ∷ xs) = does g s c fs x ++ in_turn g s c (after fs (deeds_of (does g s c fs x))) xs
 
@@ -59,7 +59,7 @@ shows_changes from c members [] = []
 shows_changes from c members (a ∷ bs) = Show members (mode_line from c (a ∷ bs)) ∷ []
 
 -- all members before the line see it
-abbrev pub takes_steps : Settings → List Deed → ℕ → List ℕ → List ℕ → Seen → List Step → List Effect
+abbrev pub takes_steps : Settings → List Deed → ℕ → List ℕ → List ℕ → Seen → List ModeStep → List Effect
 takes_steps g fs s from c k xs = in_turn g s k.name fs xs ++ shows_changes from c k.state.members (all_shown xs)
 
 abbrev pub takes_changes : Settings → List Deed → ℕ → Seen → List ModeChange → List Effect

@@ -27,8 +27,8 @@ past_next r [] = r
 past_next r (p ∷ ps) = record { on = r.on; room = r.room - 1; params = ps }
 
 -- what a letter asks for; `+` and `-` ask for nothing
-abbrev pub told : Reading → ℕ → List ModeChange
-told r letter =
+abbrev pub letter_asks : Reading → ℕ → List ModeChange
+letter_asks r letter =
     if letter == 43 then []
     else if letter == 45 then []
     else if takes_param r.on letter then with_next r letter r.params
@@ -43,10 +43,10 @@ past r letter =
     else r
 
 -- letter by letter
-abbrev pub asked : Reading → List ℕ → List ModeChange
-asked r [] = []
-asked r (letter ∷ letters) = told r letter ++ asked (past r letter) letters
+abbrev pub letters_ask : Reading → List ℕ → List ModeChange
+letters_ask r [] = []
+letters_ask r (letter ∷ letters) = letter_asks r letter ++ letters_ask (past r letter) letters
 
 -- `+` is in force at first, and four letters with a parameter are served
 abbrev pub asked_changes : List ℕ → List (List ℕ) → List ModeChange
-asked_changes letters params = asked (record { on = true; room = 4; params = params }) letters
+asked_changes letters params = letters_ask (record { on = true; room = 4; params = params }) letters

@@ -7,11 +7,11 @@ use Rattle.command_params.specs.Params.{needs_more}
 use Rattle.numerics.specs.declared.numeric.Numeric.TheVariants.{NoSuchNick, NoSuchChannel, UsersDontMatch}
 use Rattle.registration.specs.declared.settings.Settings.{Settings}
 use Rattle.roster.specs.declared.deed.Deed.{Deed}
-use Rattle.roster.specs.LookBack.{found}
-use Rattle.drafts.specs.declared.effect.Effect.{Effect}
-use Rattle.drafts.specs.Replies.{tells}
-use Rattle.drafts.specs.Seen.{Seen, seen}
-pub use Rattle.drafts.specs.Targets.{names_channel}
+use Rattle.roster.specs.LookBack.{user_named}
+use Rattle.transactions.specs.declared.effect.Effect.{Effect}
+use Rattle.transactions.specs.Replies.{tells}
+use Rattle.transactions.specs.Seen.{Seen, seen}
+pub use Rattle.transactions.specs.Targets.{names_channel}
 use Rattle.mode_commands.specs.declared.modes.ModeCommand.{ModeCommand}
 use Rattle.mode_commands.specs.ChannelModes.{channel_modes}
 use Rattle.mode_commands.specs.UserModes.{own_modes}
@@ -31,7 +31,7 @@ of_user g fs s target changes (Some t) = if t == s then own_modes g fs s changes
 
 abbrev pub modes : Settings → List Deed → ℕ → List ℕ → List (List ℕ) → List Effect
 modes g fs s target changes = if names_channel target then of_channel g fs s target changes (seen fs target)
-    else of_user g fs s target changes (found fs target)
+    else of_user g fs s target changes (user_named fs target)
 
 -- what a command about modes does
 abbrev pub serves_mode : Settings → List Deed → ℕ → ModeCommand → List Effect

@@ -19,8 +19,8 @@ completed_by mask None = if has_octet 64 mask then codes "*!" ++ mask else mask 
 completed_by mask (Some rest) = if has_octet 64 rest then mask else mask ++ codes "@*"
 
 -- `x` becomes `x!*@*`, `x@y` becomes `*!x@y`, and `x!y` becomes `x!y@*`
-unfoldable pub completed : List ℕ → List ℕ
-completed mask = completed_by mask (after_bang mask)
+unfoldable pub full_mask : List ℕ → List ℕ
+full_mask mask = completed_by mask (after_bang mask)
 
 -- a key can be a parameter by itself, and has no comma
 unfoldable pub is_key : List ℕ → Bool

@@ -11,16 +11,16 @@ use Rattle.channel_state.specs.declared.change.Rank.{Rank}
 use Rattle.channel_state.specs.declared.change.Rank.TheVariants.{Operator, Voice}
 use Rattle.channel_state.specs.declared.change.Change.TheVariants.{RankSet, FlagSet, KeySet, LimitSet}
 use Rattle.channel_state.specs.declared.change.Change.TheVariants.{BanSet, BanLifted}
-use Rattle.channel_state.specs.State.{State, among, is_set, changed}
+use Rattle.channel_state.specs.State.{State, among, is_set, with_change}
 use Rattle.roster.specs.declared.deed.Deed.{Deed}
-use Rattle.roster.specs.LookBack.{nick, found}
+use Rattle.roster.specs.LookBack.{nick, user_named}
 use Rattle.roster.specs.Legal.{IsFit}
-use Rattle.drafts.specs.Lines.{title}
+use Rattle.transactions.specs.Lines.{title}
 use Rattle.mode_commands.specs.declared.letters.ModeChange.{ModeChange}
-use Rattle.mode_commands.specs.declared.steps.Step.{Step}
-use Rattle.mode_commands.specs.declared.steps.Step.TheVariants.{Nothing, Refused, Changes}
+use Rattle.mode_commands.specs.declared.steps.ModeStep.{ModeStep}
+use Rattle.mode_commands.specs.declared.steps.ModeStep.TheVariants.{Nothing, Refused, Changes}
 use Rattle.mode_commands.specs.declared.steps.Refusal.TheVariants.{LacksParameter, Nobody, NotMember, Unknown}
-use Rattle.mode_commands.specs.Parameters.{completed, is_key, limit_of}
+use Rattle.mode_commands.specs.Parameters.{full_mask, is_key, limit_of}
 
 -- whether two tests say the same
 abbrev pub agree : Bool → Bool → Bool
@@ -41,7 +41,7 @@ flag_of letter =
     else if letter == 116 then Some TopicLocked
     else None
 
-abbrev pub flag_step : State → ModeChange → Option Flag → Step
+abbrev pub flag_step : State → ModeChange → Option Flag → ModeStep
 flag_step k a None = Refused (Unknown a.letter)
 flag_step k a (Some flag) = if agree a.on (is_set flag k.modes) then Nothing
     else Changes (FlagSet flag a.on) (shown_with a None)
@@ -53,34 +53,34 @@ has_rank k Operator t = among t k.operators
 has_rank k Voice t = among t k.voices
 
 -- a user, with its nickname as it is spelled
-abbrev pub member_step : State → Rank → ModeChange → List ℕ → ℕ → Step
+abbrev pub member_step : State → Rank → ModeChange → List ℕ → ℕ → ModeStep
 member_step k rank a n t =
     if not (among t k.members) then Refused (NotMember n)
     else if agree a.on (has_rank k rank t) then Nothing
     else Changes (RankSet t rank a.on) (shown_with a (Some n))
 
-abbrev pub user_step : List Deed → State → Rank → ModeChange → List ℕ → Option ℕ → Step
+abbrev pub user_step : List Deed → State → Rank → ModeChange → List ℕ → Option ℕ → ModeStep
 user_step fs k rank a n None = Refused (Nobody n)
 user_step fs k rank a n (Some t) = member_step k rank a (title (nick fs t)) t
 
-abbrev pub rank_step : List Deed → State → Rank → ModeChange → Option (List ℕ) → Step
+abbrev pub rank_step : List Deed → State → Rank → ModeChange → Option (List ℕ) → ModeStep
 rank_step fs k rank a None = Refused LacksParameter
-rank_step fs k rank a (Some n) = user_step fs k rank a n (found fs n)
+rank_step fs k rank a (Some n) = user_step fs k rank a n (user_named fs n)
 
 -- ---- `b`: masks are the same however they are spelled, and there are 60 at most
 
 abbrev pub has_ban : State → List ℕ → Bool
 has_ban k mask = list_any (λ m. is_same m mask) k.bans
 
-abbrev pub mask_step : State → ModeChange → List ℕ → Step
+abbrev pub mask_step : State → ModeChange → List ℕ → ModeStep
 mask_step k a mask =
     if a.on then (if has_ban k mask || nat_le 60 (length k.bans) then Nothing
     else Changes (BanSet mask) (shown_with a (Some mask)))
     else (if has_ban k mask then Changes (BanLifted mask) (shown_with a (Some mask)) else Nothing)
 
-abbrev pub ban_step : State → ModeChange → Option (List ℕ) → Step
+abbrev pub ban_step : State → ModeChange → Option (List ℕ) → ModeStep
 ban_step k a None = Nothing
-ban_step k a (Some mask) = if needs_colon mask then Nothing else mask_step k a (completed mask)
+ban_step k a (Some mask) = if needs_colon mask then Nothing else mask_step k a (full_mask mask)
 
 -- ---- `k`: a key has 23 octets at most, and isn't shown where it is taken away
 
@@ -88,17 +88,17 @@ abbrev pub has_key : Option (List ℕ) → List ℕ → Bool
 has_key None key = false
 has_key (Some old) key = bytes_eq old key
 
-abbrev pub key_set : State → ModeChange → List ℕ → Step
+abbrev pub key_set : State → ModeChange → List ℕ → ModeStep
 key_set k a key = if has_key k.modes.key key then Nothing else Changes (KeySet (Some key)) (shown_with a (Some key))
 
-abbrev pub key_given : State → ModeChange → Option (List ℕ) → Step
+abbrev pub key_given : State → ModeChange → Option (List ℕ) → ModeStep
 key_given k a None = Refused LacksParameter
 key_given k a (Some key) = if is_key key then key_set k a (take 23 key) else Nothing
 
-abbrev pub key_lifted : State → ModeChange → Step
+abbrev pub key_lifted : State → ModeChange → ModeStep
 key_lifted k a = if is_some k.modes.key then Changes (KeySet None) (shown_with a (Some (codes "*"))) else Nothing
 
-abbrev pub key_step : State → ModeChange → Option (List ℕ) → Step
+abbrev pub key_step : State → ModeChange → Option (List ℕ) → ModeStep
 key_step k a param = if a.on then key_given k a param else key_lifted k a
 
 -- ---- `l`
@@ -107,25 +107,25 @@ abbrev pub has_limit : Option ℕ → ℕ → Bool
 has_limit None limit = false
 has_limit (Some old) limit = old == limit
 
-abbrev pub limit_set : State → ModeChange → Option ℕ → Step
+abbrev pub limit_set : State → ModeChange → Option ℕ → ModeStep
 limit_set k a None = Nothing
 limit_set k a (Some limit) = if has_limit k.modes.limit limit then Nothing
     else Changes (LimitSet (Some limit)) (shown_with a (Some (decimal limit)))
 
-abbrev pub limit_given : State → ModeChange → Option (List ℕ) → Step
+abbrev pub limit_given : State → ModeChange → Option (List ℕ) → ModeStep
 limit_given k a None = Refused LacksParameter
 limit_given k a (Some text) = limit_set k a (limit_of text)
 
-abbrev pub limit_lifted : State → ModeChange → Step
+abbrev pub limit_lifted : State → ModeChange → ModeStep
 limit_lifted k a = if is_some k.modes.limit then Changes (LimitSet None) (shown_with a None) else Nothing
 
-abbrev pub limit_step : State → ModeChange → Option (List ℕ) → Step
+abbrev pub limit_step : State → ModeChange → Option (List ℕ) → ModeStep
 limit_step k a param = if a.on then limit_given k a param else limit_lifted k a
 
 -- ---- any letter
 
 -- users are looked up in the facts before the line
-unfoldable pub step : List Deed → State → ModeChange → Step
+unfoldable pub step : List Deed → State → ModeChange → ModeStep
 step fs k a =
     if a.letter == 111 then rank_step fs k Operator a a.param
     else if a.letter == 118 then rank_step fs k Voice a a.param
@@ -135,25 +135,25 @@ step fs k a =
     else flag_step k a (flag_of a.letter)
 
 -- the channel after it
-abbrev pub stepped : Step → State → State
-stepped (Changes x shown) k = changed x k
-stepped other k = k
+abbrev pub after_mode : ModeStep → State → State
+after_mode (Changes x shown) k = with_change x k
+after_mode other k = k
 
 -- the letters in turn
-abbrev pub steps : List Deed → State → List ModeChange → List Step
+abbrev pub steps : List Deed → State → List ModeChange → List ModeStep
 steps fs k [] = []
-steps fs k (a ∷ bs) = step fs k a ∷ steps fs (stepped (step fs k a) k) bs
+steps fs k (a ∷ bs) = step fs k a ∷ steps fs (after_mode (step fs k a) k) bs
 
 -- what changed, as it is shown
-abbrev pub shown_by : Step → List ModeChange
+abbrev pub shown_by : ModeStep → List ModeChange
 shown_by (Changes x shown) = shown ∷ []
 shown_by other = []
 
-abbrev pub all_shown : List Step → List ModeChange
+abbrev pub all_shown : List ModeStep → List ModeChange
 all_shown [] = []
 all_shown (x ∷ xs) = shown_by x ++ all_shown xs
 
 -- it may come next on the channel, and nobody joins or leaves by it
-abbrev pub IsMild : State → Step → Type 0
-IsMild k (Changes x shown) = IsFit k x × ((changed x k).members ≡ k.members)
+abbrev pub IsMild : State → ModeStep → Type 0
+IsMild k (Changes x shown) = IsFit k x × ((with_change x k).members ≡ k.members)
 IsMild k other = Unit {0}

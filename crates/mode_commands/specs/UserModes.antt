@@ -6,10 +6,10 @@ use Rattle.registration.specs.declared.settings.Settings.{Settings}
 use Rattle.roster.specs.declared.deed.Deed.{Deed}
 use Rattle.roster.specs.declared.deed.Deed.TheVariants.{InvisibleSet}
 use Rattle.roster.specs.LookBack.{nick, invisible}
-use Rattle.drafts.specs.declared.effect.Effect.{Effect}
-use Rattle.drafts.specs.declared.effect.Effect.TheVariants.{Establish, Answer}
-use Rattle.drafts.specs.Lines.{title, prefix}
-use Rattle.drafts.specs.Replies.{tells}
+use Rattle.transactions.specs.declared.effect.Effect.{Effect}
+use Rattle.transactions.specs.declared.effect.Effect.TheVariants.{Establish, Answer}
+use Rattle.transactions.specs.Lines.{title, prefix}
+use Rattle.transactions.specs.Replies.{tells}
 use Rattle.mode_commands.specs.declared.letters.ModeChange.{ModeChange}
 use Rattle.mode_commands.specs.Letters.{asks, asked_changes}
 use Rattle.mode_commands.specs.Lines.{mode_line}

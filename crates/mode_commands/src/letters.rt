@@ -1,6 +1,6 @@
 //! The letters of MODE with their signs and parameters (RFC 2812, section 3.2.3).
 ghost use Rattle.std.specs.Prelude.{◌≡◌, ◌++◌, [], IfOk, OnOk};
-ghost use Rattle.mode_commands.specs.Letters.{asked_changes, past, past_next, takes_param, told, with_next};
+ghost use Rattle.mode_commands.specs.Letters.{asked_changes, past, past_next, takes_param, letter_asks, with_next};
 
 use line_grammar::Octets;
 use std::alloc::{AllocError, Global};
@@ -73,7 +73,8 @@ impl<'a> Reading<'a> {
     /// Reads a letter.
     fn read(&mut self, asked: &mut Vec<ModeChange>, letter: u8) -> Result<(), AllocError>
         ensures past { OnOk result (self.new ≡ past self.old letter) }
-        ensures told { OnOk result (asked.new.items ≡ asked.old.items ++ told self.old letter) }
+        ensures told { OnOk result (asked.new.items ≡ asked.old.items
+            ++ letter_asks self.old letter) }
     {
         if letter == b'+' {
             self.on = true;

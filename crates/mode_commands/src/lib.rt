@@ -3,7 +3,7 @@
 
 mod channel_modes;
 mod letters;
-mod lines;
+mod mode_lines;
 mod modes;
 mod parameters;
 mod steps;
@@ -11,4 +11,4 @@ mod user_modes;
 
 pub use letters::ModeChange;
 pub use modes::{ModeCommand, change_modes, read_mode, serve_mode};
-pub use steps::Step;
+pub use steps::ModeStep;

@@ -1,7 +1,7 @@
 //! Parameters of modes: masks, keys and limits (RFC 2811, sections 4.2.9, 4.2.10 and 4.3).
 ghost use Rattle.std.specs.Prelude.{◌≡◌, ◌++◌, IfOk, OnOk};
 ghost use Rattle.std.specs.Option.{option_map};
-ghost use Rattle.mode_commands.specs.Parameters.{after_bang, completed, completed_by, is_key, limit_of};
+ghost use Rattle.mode_commands.specs.Parameters.{after_bang, full_mask, completed_by, is_key, limit_of};
 
 use line_grammar::{Octets, needs_colon};
 use std::alloc::{AllocError, Global};
@@ -22,7 +22,7 @@ fn after_bang(mask: &[u8]) -> Option<&[u8]>
 }
 
 /// A text of three parts.
-fn joined(alloc: Global, first: &[u8], middle: &[u8], last: &[u8]) -> Result<Octets, AllocError>
+fn join(alloc: Global, first: &[u8], middle: &[u8], last: &[u8]) -> Result<Octets, AllocError>
     ensures { IfOk result (λ o. o ≡ first.now ++ middle.now ++ last.now) }
 {
     let mut text = Vec::new(alloc);
@@ -33,15 +33,15 @@ fn joined(alloc: Global, first: &[u8], middle: &[u8], last: &[u8]) -> Result<Oct
 }
 
 /// A mask with all its parts: `x` becomes `x!*@*`, `x@y` becomes `*!x@y`, and `x!y` becomes `x!y@*`.
-#[tactic(auto, unfolding(crate::specs::Parameters::completed))]
-pub(crate) fn completed(alloc: Global, mask: &[u8]) -> Result<Octets, AllocError>
-    ensures { IfOk result (λ o. o ≡ completed mask.now) }
+#[tactic(auto, unfolding(crate::specs::Parameters::full_mask))]
+pub(crate) fn full_mask_of(alloc: Global, mask: &[u8]) -> Result<Octets, AllocError>
+    ensures { IfOk result (λ o. o ≡ full_mask mask.now) }
 {
     match after_bang(mask) {
-        Some(rest) if rest.contains(&b'@') => joined(alloc, b"", mask, b""),
-        Some(_) => joined(alloc, b"", mask, b"@*"),
-        None if mask.contains(&b'@') => joined(alloc, b"*!", mask, b""),
-        None => joined(alloc, b"", mask, b"!*@*"),
+        Some(rest) if rest.contains(&b'@') => join(alloc, b"", mask, b""),
+        Some(_) => join(alloc, b"", mask, b"@*"),
+        None if mask.contains(&b'@') => join(alloc, b"*!", mask, b""),
+        None => join(alloc, b"", mask, b"!*@*"),
     }
 }
 

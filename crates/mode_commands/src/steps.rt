@@ -1,20 +1,20 @@
 //! What a letter of MODE does to a channel (RFC 2812, section 3.2.3; RFC 2811, sections 4.1 to 4.3).
 ghost use Rattle.std.specs.Prelude.{◌≡◌, decimal, take, IfOk};
-ghost use Rattle.roster.specs.LookBack.{found};
+ghost use Rattle.roster.specs.LookBack.{user_named};
 ghost use Rattle.mode_commands.specs.Steps.{agree, ban_step, flag_of, flag_step, has_ban, has_key, has_limit};
 ghost use Rattle.mode_commands.specs.Steps.{has_rank, key_given, key_lifted, key_set, key_step, limit_given};
 ghost use Rattle.mode_commands.specs.Steps.{limit_lifted, limit_set, limit_step, mask_step, member_step};
 ghost use Rattle.mode_commands.specs.Steps.{rank_step, shown_with, step, user_step};
 
 use crate::letters::ModeChange;
-use crate::parameters::{completed, is_key, limit_of};
+use crate::parameters::{full_mask_of, is_key, limit_of};
 use casemapping::is_same;
 use channel_state::{Change, ChannelState, Flag, Rank};
 use chronicle::SessionId;
-use drafts::title_of;
 use line_grammar::{Octets, needs_colon};
 use roster::Roster;
 use std::alloc::{AllocError, Global};
+use transactions::title_of;
 
 /// How many masks a channel bans at most.
 const MAX_BANS: usize = 60;
@@ -37,7 +37,7 @@ pub enum Refusal {
 
 /// What comes of a letter.
 #[derive(Drop)]
-pub enum Step {
+pub enum ModeStep {
     /// It has no effect.
     Nothing,
     /// It is refused.
@@ -81,20 +81,20 @@ fn flag_of(letter: u8) -> Option<Flag>
     }
 }
 
-fn flag_step(state: &ChannelState, asked: &ModeChange, flag: Option<Flag>) -> Step
+fn flag_step(state: &ChannelState, asked: &ModeChange, flag: Option<Flag>) -> ModeStep
     ensures { result ≡ flag_step state.now.state asked.now flag }
 {
     let Some(flag) = flag else {
-        return Step::Refused {
+        return ModeStep::Refused {
             refusal: Refusal::Unknown {
                 letter: asked.letter,
             },
         };
     };
     if agree(asked.on, state.modes().is_set(flag)) {
-        return Step::Nothing;
+        return ModeStep::Nothing;
     }
-    Step::Changes {
+    ModeStep::Changes {
         change: Change::FlagSet { flag, on: asked.on },
         shown: shown_with(asked, None),
     }
@@ -118,18 +118,18 @@ fn member_step(
     asked: &ModeChange,
     nick: Octets,
     session: SessionId,
-) -> Step
+) -> ModeStep
     ensures { result ≡ member_step state.now.state rank asked.now nick session }
 {
     if !state.has(session) {
-        return Step::Refused {
+        return ModeStep::Refused {
             refusal: Refusal::NotMember { nick },
         };
     }
     if agree(asked.on, has_rank(state, rank, session)) {
-        return Step::Nothing;
+        return ModeStep::Nothing;
     }
-    Step::Changes {
+    ModeStep::Changes {
         change: Change::RankSet {
             session,
             rank,
@@ -146,9 +146,9 @@ fn user_step(
     rank: Rank,
     asked: &ModeChange,
     nick: &Octets,
-) -> Result<Step, AllocError>
+) -> Result<ModeStep, AllocError>
     ensures { IfOk result (λ x. x ≡ user_step roster.now.facts state.now.state rank asked.now
-        nick.now (found roster.now.facts nick.now)) }
+        nick.now (user_named roster.now.facts nick.now)) }
 {
     match roster.find(nick.as_slice()) {
         Some(session) => {
@@ -157,7 +157,7 @@ fn user_step(
         }
         None => {
             let nick = nick.clone()?;
-            Ok(Step::Refused {
+            Ok(ModeStep::Refused {
                 refusal: Refusal::Nobody { nick },
             })
         }
@@ -170,13 +170,13 @@ fn rank_step(
     state: &ChannelState,
     rank: Rank,
     asked: &ModeChange,
-) -> Result<Step, AllocError>
+) -> Result<ModeStep, AllocError>
     ensures { IfOk result
         (λ x. x ≡ rank_step roster.now.facts state.now.state rank asked.now asked.now.param) }
 {
     match &asked.param {
         Some(nick) => user_step(alloc, roster, state, rank, asked, nick),
-        None => Ok(Step::Refused {
+        None => Ok(ModeStep::Refused {
             refusal: Refusal::LacksParameter,
         }),
     }
@@ -194,7 +194,7 @@ fn has_ban(state: &ChannelState, mask: &[u8]) -> bool
 }
 
 /// A completed mask is banned, or not any more.
-fn mask_step(state: &ChannelState, asked: &ModeChange, mask: Octets) -> Result<Step, AllocError>
+fn mask_step(state: &ChannelState, asked: &ModeChange, mask: Octets) -> Result<ModeStep, AllocError>
     ensures { IfOk result (λ x. x ≡ mask_step state.now.state asked.now mask) }
 {
     let has = has_ban(state, mask.as_slice());
@@ -202,28 +202,28 @@ fn mask_step(state: &ChannelState, asked: &ModeChange, mask: Octets) -> Result<S
     let shown = shown_with(asked, Some(shown));
     if asked.on {
         if has || state.bans().len() >= MAX_BANS {
-            return Ok(Step::Nothing);
+            return Ok(ModeStep::Nothing);
         }
         let change = Change::BanSet { mask };
-        return Ok(Step::Changes { change, shown });
+        return Ok(ModeStep::Changes { change, shown });
     }
     if !has {
-        return Ok(Step::Nothing);
+        return Ok(ModeStep::Nothing);
     }
     let change = Change::BanLifted { mask };
-    Ok(Step::Changes { change, shown })
+    Ok(ModeStep::Changes { change, shown })
 }
 
-fn ban_step(alloc: Global, state: &ChannelState, asked: &ModeChange) -> Result<Step, AllocError>
+fn ban_step(alloc: Global, state: &ChannelState, asked: &ModeChange) -> Result<ModeStep, AllocError>
     ensures { IfOk result (λ x. x ≡ ban_step state.now.state asked.now asked.now.param) }
 {
     let Some(mask) = &asked.param else {
-        return Ok(Step::Nothing);
+        return Ok(ModeStep::Nothing);
     };
     if needs_colon(mask.as_slice()) {
-        return Ok(Step::Nothing);
+        return Ok(ModeStep::Nothing);
     }
-    let mask = completed(alloc, mask.as_slice())?;
+    let mask = full_mask_of(alloc, mask.as_slice())?;
     mask_step(state, asked, mask)
 }
 
@@ -239,14 +239,14 @@ fn has_key(old: &Option<Octets>, key: &Octets) -> bool
 }
 
 /// A key is set.
-fn key_set(state: &ChannelState, asked: &ModeChange, key: Octets) -> Result<Step, AllocError>
+fn key_set(state: &ChannelState, asked: &ModeChange, key: Octets) -> Result<ModeStep, AllocError>
     ensures { IfOk result (λ x. x ≡ key_set state.now.state asked.now key) }
 {
     if has_key(&state.modes().key, &key) {
-        return Ok(Step::Nothing);
+        return Ok(ModeStep::Nothing);
     }
     let shown = key.clone()?;
-    Ok(Step::Changes {
+    Ok(ModeStep::Changes {
         change: Change::KeySet { key: Some(key) },
         shown: shown_with(asked, Some(shown)),
     })
@@ -261,35 +261,43 @@ fn cut_key(alloc: Global, key: &[u8]) -> Result<Octets, AllocError>
     Ok(Octets::from_vec(cut))
 }
 
-fn key_given(alloc: Global, state: &ChannelState, asked: &ModeChange) -> Result<Step, AllocError>
+fn key_given(
+    alloc: Global,
+    state: &ChannelState,
+    asked: &ModeChange,
+) -> Result<ModeStep, AllocError>
     ensures { IfOk result (λ x. x ≡ key_given state.now.state asked.now asked.now.param) }
 {
     let Some(key) = &asked.param else {
-        return Ok(Step::Refused {
+        return Ok(ModeStep::Refused {
             refusal: Refusal::LacksParameter,
         });
     };
     if !is_key(key.as_slice()) {
-        return Ok(Step::Nothing);
+        return Ok(ModeStep::Nothing);
     }
     let key = cut_key(alloc, key.as_slice())?;
     key_set(state, asked, key)
 }
 
-fn key_lifted(alloc: Global, state: &ChannelState, asked: &ModeChange) -> Result<Step, AllocError>
+fn key_lifted(
+    alloc: Global,
+    state: &ChannelState,
+    asked: &ModeChange,
+) -> Result<ModeStep, AllocError>
     ensures { IfOk result (λ x. x ≡ key_lifted state.now.state asked.now) }
 {
     if state.modes().key.is_none() {
-        return Ok(Step::Nothing);
+        return Ok(ModeStep::Nothing);
     }
-    let shown = Octets::copied(alloc, b"*")?;
-    Ok(Step::Changes {
+    let shown = Octets::copy_of(alloc, b"*")?;
+    Ok(ModeStep::Changes {
         change: Change::KeySet { key: None },
         shown: shown_with(asked, Some(shown)),
     })
 }
 
-fn key_step(alloc: Global, state: &ChannelState, asked: &ModeChange) -> Result<Step, AllocError>
+fn key_step(alloc: Global, state: &ChannelState, asked: &ModeChange) -> Result<ModeStep, AllocError>
     ensures { IfOk result (λ x. x ≡ key_step state.now.state asked.now asked.now.param) }
 {
     if asked.on {
@@ -313,7 +321,7 @@ fn has_limit(old: Option<u64>, limit: u64) -> bool
 pub(crate) fn decimal(alloc: Global, number: u64) -> Result<Octets, AllocError>
     ensures { IfOk result (λ t. t ≡ decimal number) }
 {
-    Octets::copied(alloc, format!(in alloc; "{number}")?.as_bytes())
+    Octets::copy_of(alloc, format!(in alloc; "{number}")?.as_bytes())
 }
 
 fn limit_set(
@@ -321,27 +329,31 @@ fn limit_set(
     state: &ChannelState,
     asked: &ModeChange,
     limit: Option<u64>,
-) -> Result<Step, AllocError>
+) -> Result<ModeStep, AllocError>
     ensures { IfOk result (λ x. x ≡ limit_set state.now.state asked.now limit) }
 {
     let Some(limit) = limit else {
-        return Ok(Step::Nothing);
+        return Ok(ModeStep::Nothing);
     };
     if has_limit(state.modes().limit, limit) {
-        return Ok(Step::Nothing);
+        return Ok(ModeStep::Nothing);
     }
     let shown = decimal(alloc, limit)?;
-    Ok(Step::Changes {
+    Ok(ModeStep::Changes {
         change: Change::LimitSet { limit: Some(limit) },
         shown: shown_with(asked, Some(shown)),
     })
 }
 
-fn limit_given(alloc: Global, state: &ChannelState, asked: &ModeChange) -> Result<Step, AllocError>
+fn limit_given(
+    alloc: Global,
+    state: &ChannelState,
+    asked: &ModeChange,
+) -> Result<ModeStep, AllocError>
     ensures { IfOk result (λ x. x ≡ limit_given state.now.state asked.now asked.now.param) }
 {
     let Some(text) = &asked.param else {
-        return Ok(Step::Refused {
+        return Ok(ModeStep::Refused {
             refusal: Refusal::LacksParameter,
         });
     };
@@ -349,19 +361,23 @@ fn limit_given(alloc: Global, state: &ChannelState, asked: &ModeChange) -> Resul
     limit_set(alloc, state, asked, limit)
 }
 
-fn limit_lifted(state: &ChannelState, asked: &ModeChange) -> Step
+fn limit_lifted(state: &ChannelState, asked: &ModeChange) -> ModeStep
     ensures { result ≡ limit_lifted state.now.state asked.now }
 {
     if state.modes().limit.is_none() {
-        return Step::Nothing;
+        return ModeStep::Nothing;
     }
-    Step::Changes {
+    ModeStep::Changes {
         change: Change::LimitSet { limit: None },
         shown: shown_with(asked, None),
     }
 }
 
-fn limit_step(alloc: Global, state: &ChannelState, asked: &ModeChange) -> Result<Step, AllocError>
+fn limit_step(
+    alloc: Global,
+    state: &ChannelState,
+    asked: &ModeChange,
+) -> Result<ModeStep, AllocError>
     ensures { IfOk result (λ x. x ≡ limit_step state.now.state asked.now asked.now.param) }
 {
     if asked.on {
@@ -379,7 +395,7 @@ pub(crate) fn step_of(
     roster: &Roster,
     state: &ChannelState,
     asked: &ModeChange,
-) -> Result<Step, AllocError>
+) -> Result<ModeStep, AllocError>
     ensures { IfOk result (λ x. x ≡ step roster.now.facts state.now.state asked.now) }
 {
     match asked.letter {

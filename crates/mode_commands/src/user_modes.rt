@@ -4,21 +4,21 @@ ghost use Rattle.std.specs.List.{list_any};
 ghost use Rattle.numerics.specs.declared.numeric.Numeric.TheVariants.{UModeIs};
 ghost use Rattle.roster.specs.LookBack.{invisible, nick};
 ghost use Rattle.roster.specs.Legal.{IsOpened};
-ghost use Rattle.drafts.specs.Words.{grown, prefix, tells, title};
+ghost use Rattle.transactions.specs.Words.{grown, prefix, tells, title};
 ghost use Rattle.mode_commands.specs.Letters.{asked_changes, asks};
 ghost use Rattle.mode_commands.specs.Lines.{mode_line};
 ghost use Rattle.mode_commands.specs.UserModes.{hides, invisible_after, is_known, modes_text};
 ghost use Rattle.mode_commands.specs.UserModes.{own_modes, takes_own, tells_unknown};
 
 use crate::letters::{ModeChange, asked_changes};
-use crate::lines::mode_line;
+use crate::mode_lines::mode_line;
 use crate::steps::agree;
 use chronicle::SessionId;
-use drafts::{Draft, prefix_of, tell, title_of};
 use line_grammar::Octets;
 use numerics::{Line, Numeric};
 use roster::Deed;
 use std::alloc::{AllocError, Global};
+use transactions::{Transaction, prefix_of, tell, title_of};
 
 /// The text of a user's modes.
 fn modes_text(is_invisible: bool) -> &'static [u8]
@@ -49,28 +49,28 @@ fn has_unknown(changes: &[ModeChange]) -> bool
 
 /// Tells of letters that aren't known, once.
 fn tell_unknown(
-    draft: &mut Draft,
+    tx: &mut Transaction,
     session: SessionId,
     changes: &[ModeChange],
 ) -> Result<(), AllocError>
-    ensures grown { OnOk result (draft.new
-        ≡ grown draft.old (tells_unknown draft.old.settings draft.old.facts session changes.now)) }
-    ensures facts { OnOk result (draft.new.facts ≡ draft.old.facts) }
+    ensures grown { OnOk result (tx.new
+        ≡ grown tx.old (tells_unknown tx.old.settings tx.old.facts session changes.now)) }
+    ensures facts { OnOk result (tx.new.facts ≡ tx.old.facts) }
 {
     if has_unknown(changes) {
-        return tell(draft, session, Numeric::UModeUnknownFlag);
+        return tell(tx, session, Numeric::UModeUnknownFlag);
     }
     Ok(())
 }
 
 /// The line that shows a session its own mode.
-fn own_line(draft: &Draft, session: SessionId, is: bool) -> Result<Line, AllocError>
-    ensures { IfOk result (λ l. l ≡ mode_line (prefix draft.now.facts session)
-        (title (nick draft.now.facts session)) (asks is 105 None)) }
+fn own_line(tx: &Transaction, session: SessionId, is: bool) -> Result<Line, AllocError>
+    ensures { IfOk result (λ l. l ≡ mode_line (prefix tx.now.facts session)
+        (title (nick tx.now.facts session)) (asks is 105 None)) }
 {
-    let alloc = draft.alloc();
-    let from = prefix_of(draft, session)?;
-    let nick = title_of(alloc, draft.nick_of(session))?;
+    let alloc = tx.alloc();
+    let from = prefix_of(tx, session)?;
+    let nick = title_of(alloc, tx.nick_of(session))?;
     let shown = ModeChange {
         on: is,
         letter: b'i',
@@ -80,68 +80,72 @@ fn own_line(draft: &Draft, session: SessionId, is: bool) -> Result<Line, AllocEr
 }
 
 /// A session is invisible from now on, or isn't.
-#[tactic(auto, using(drafts::proofs::Replay::grown_grown))]
-fn hide(draft: &mut Draft, session: SessionId, is: bool) -> Result<(), AllocError>
-    requires opened { IsOpened draft.old.facts session }
-    requires first { draft.old.facts ≡ draft.old.base }
-    ensures { OnOk result (draft.new ≡ grown draft.old (hides draft.old.facts session is)) }
+#[tactic(auto, using(transactions::proofs::Replay::grown_grown))]
+fn hide(tx: &mut Transaction, session: SessionId, is: bool) -> Result<(), AllocError>
+    requires opened { IsOpened tx.old.facts session }
+    requires first { tx.old.facts ≡ tx.old.base }
+    ensures { OnOk result (tx.new ≡ grown tx.old (hides tx.old.facts session is)) }
 {
-    if agree(is, draft.before().is_invisible(session)) {
+    if agree(is, tx.before().is_invisible(session)) {
         return Ok(());
     }
-    let line = own_line(draft, session, is)?;
-    draft.establish(Deed::InvisibleSet { session, on: is })?;
-    draft.answer(line)
+    let line = own_line(tx, session, is)?;
+    tx.establish(Deed::InvisibleSet { session, on: is })?;
+    tx.answer(line)
 }
 
 /// Takes letters of a session's own modes.
-#[tactic(auto, using(drafts::proofs::Replay::grown_grown))]
-fn take_own(draft: &mut Draft, session: SessionId, changes: &[ModeChange]) -> Result<(), AllocError>
-    requires opened { IsOpened draft.old.facts session }
-    requires first { draft.old.facts ≡ draft.old.base }
-    ensures { OnOk result (draft.new
-        ≡ grown draft.old (takes_own draft.old.settings draft.old.facts session changes.now)) }
+#[tactic(auto, using(transactions::proofs::Replay::grown_grown))]
+fn take_own(
+    tx: &mut Transaction,
+    session: SessionId,
+    changes: &[ModeChange],
+) -> Result<(), AllocError>
+    requires opened { IsOpened tx.old.facts session }
+    requires first { tx.old.facts ≡ tx.old.base }
+    ensures { OnOk result (tx.new
+        ≡ grown tx.old (takes_own tx.old.settings tx.old.facts session changes.now)) }
 {
-    let was = draft.before().is_invisible(session);
-    tell_unknown(draft, session, changes)?;
-    hide(draft, session, invisible_after(was, changes))
+    let was = tx.before().is_invisible(session);
+    tell_unknown(tx, session, changes)?;
+    hide(tx, session, invisible_after(was, changes))
 }
 
 /// Tells a session its own modes.
-fn tell_own(draft: &mut Draft, session: SessionId) -> Result<(), AllocError>
-    requires { draft.old.facts ≡ draft.old.base }
-    ensures { OnOk result (draft.new ≡ grown draft.old (tells draft.old.settings draft.old.facts
-        session (UModeIs (modes_text (invisible draft.old.facts session))) ∷ [])) }
+fn tell_own(tx: &mut Transaction, session: SessionId) -> Result<(), AllocError>
+    requires { tx.old.facts ≡ tx.old.base }
+    ensures { OnOk result (tx.new ≡ grown tx.old (tells tx.old.settings tx.old.facts
+        session (UModeIs (modes_text (invisible tx.old.facts session))) ∷ [])) }
 {
-    let is = draft.before().is_invisible(session);
-    let modes = Octets::copied(draft.alloc(), modes_text(is))?;
-    tell(draft, session, Numeric::UModeIs(modes))
+    let is = tx.before().is_invisible(session);
+    let modes = Octets::copy_of(tx.alloc(), modes_text(is))?;
+    tell(tx, session, Numeric::UModeIs(modes))
 }
 
 /// Changes a session's own modes by letters.
-fn change_own(draft: &mut Draft, session: SessionId, letters: &[u8]) -> Result<(), AllocError>
-    requires opened { IsOpened draft.old.facts session }
-    requires first { draft.old.facts ≡ draft.old.base }
-    ensures { OnOk result (draft.new ≡ grown draft.old
-        (takes_own draft.old.settings draft.old.facts session (asked_changes letters.now []))) }
+fn change_own(tx: &mut Transaction, session: SessionId, letters: &[u8]) -> Result<(), AllocError>
+    requires opened { IsOpened tx.old.facts session }
+    requires first { tx.old.facts ≡ tx.old.base }
+    ensures { OnOk result (tx.new ≡ grown tx.old
+        (takes_own tx.old.settings tx.old.facts session (asked_changes letters.now []))) }
 {
-    let asked = asked_changes(draft.alloc(), letters, &[])?;
-    take_own(draft, session, &asked)
+    let asked = asked_changes(tx.alloc(), letters, &[])?;
+    take_own(tx, session, &asked)
 }
 
 /// Tells or changes a session's own modes.
 pub(crate) fn own_modes(
-    draft: &mut Draft,
+    tx: &mut Transaction,
     session: SessionId,
     changes: &[Octets],
 ) -> Result<(), AllocError>
-    requires opened { IsOpened draft.old.facts session }
-    requires first { draft.old.facts ≡ draft.old.base }
-    ensures { OnOk result (draft.new
-        ≡ grown draft.old (own_modes draft.old.settings draft.old.facts session changes.now)) }
+    requires opened { IsOpened tx.old.facts session }
+    requires first { tx.old.facts ≡ tx.old.base }
+    ensures { OnOk result (tx.new
+        ≡ grown tx.old (own_modes tx.old.settings tx.old.facts session changes.now)) }
 {
     match changes.split_first() {
-        Some((letters, _)) => change_own(draft, session, letters.as_slice()),
-        None => tell_own(draft, session),
+        Some((letters, _)) => change_own(tx, session, letters.as_slice()),
+        None => tell_own(tx, session),
     }
 }

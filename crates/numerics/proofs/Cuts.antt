@@ -5,16 +5,16 @@ use Rattle.std.specs.List.{All, AllByRecursion, flat_map}
 use Rattle.std.proofs.lemmas.Bool.{cases_Bool, and_parts, ltb-true, leb-true}
 use Rattle.std.proofs.lemmas.Grind.{flat_map-append}
 use Rattle.std.proofs.lemmas.List.Elements.{All-from_recursion, recursion_from_All}
-use Rattle.numerics.specs.Numerics.{spaced}
-use Rattle.numerics.specs.Cut.{takes, filled, cut, IsWithin, AreFull}
+use Rattle.numerics.specs.Numerics.{names_text}
+use Rattle.numerics.specs.Cut.{takes, lines_with, cut_lines, IsWithin, AreFull}
 
 -- ---- the length of a line
 
-pub one_spaced : (word : List ℕ) → length (spaced (word ∷ [])) ≡ length word
+pub one_spaced : (word : List ℕ) → length (names_text (word ∷ [])) ≡ length word
 one_spaced word = ap length (append-nil word)
 
 length-more : (first : List ℕ) (line : List (List ℕ)) (word : List ℕ)
-    → length (spaced (first ∷ (line ++ word ∷ []))) ≡ length (spaced (first ∷ line)) + (1 + length word)
+    → length (names_text (first ∷ (line ++ word ∷ []))) ≡ length (names_text (first ∷ line)) + (1 + length word)
 length-more first line word =
     let after = λ (ws : List (List ℕ)). flat_map (λ w. 32 ∷ w) ws in
     let parts : after (line ++ word ∷ []) ≡ after line ++ after (word ∷ []) = flat_map-append
@@ -29,26 +29,26 @@ length-more first line word =
       length-append first (after line),
     )
 
-pub more_spaced : (line : List (List ℕ)) (word : List ℕ) → 0 < length line → length (spaced (line ++ word ∷ []))
-    ≡ length (spaced line) + (1 + length word)
+pub more_spaced : (line : List (List ℕ)) (word : List ℕ) → 0 < length line → length (names_text (line ++ word ∷ []))
+    ≡ length (names_text line) + (1 + length word)
 more_spaced [] word some = absurd (omega (arith, some))
 more_spaced (first ∷ line) word some = length-more first line word
 
 -- ---- a step
 
 pub filled-more : (room most : ℕ) (line : List (List ℕ)) (word : List ℕ) (words : List (List ℕ))
-    → takes room most line word ≡ true → filled room most line (word ∷ words)
-    ≡ filled room most (line ++ word ∷ []) words
-filled-more room most line word words e = rw (e, filled) refl
+    → takes room most line word ≡ true → lines_with room most line (word ∷ words)
+    ≡ lines_with room most (line ++ word ∷ []) words
+filled-more room most line word words e = rw (e, lines_with) refl
 
 pub filled-full : (room most : ℕ) (line : List (List ℕ)) (word : List ℕ) (words : List (List ℕ))
-    → takes room most line word ≡ false → filled room most line (word ∷ words)
-    ≡ line ∷ filled room most (word ∷ []) words
-filled-full room most line word words e = rw (e, filled) refl
+    → takes room most line word ≡ false → lines_with room most line (word ∷ words)
+    ≡ line ∷ lines_with room most (word ∷ []) words
+filled-full room most line word words e = rw (e, lines_with) refl
 
 -- ---- the lines joined are the words
 
-joined-filled : (room most : ℕ) (line words : List (List ℕ)) → flat_map (λ l. l) (filled room most line words)
+joined-filled : (room most : ℕ) (line words : List (List ℕ)) → flat_map (λ l. l) (lines_with room most line words)
     ≡ line ++ words
 joined-filled room most line [] = refl
 joined-filled room most line (word ∷ words) =
@@ -59,8 +59,8 @@ joined-filled room most line (word ∷ words) =
           (λ ws. line ++ ws) (joined-filled room most (word ∷ []) words)
     ]
 
-pub joined-cut : (room most : ℕ) (words : List (List ℕ)) → flat_map (λ l. l) (cut room most words) ≡ words
-unfolding cut
+pub joined-cut : (room most : ℕ) (words : List (List ℕ)) → flat_map (λ l. l) (cut_lines room most words) ≡ words
+unfolding cut_lines
 joined-cut room most [] = refl
 joined-cut room most (word ∷ words) = joined-filled room most (word ∷ []) words
 
@@ -76,7 +76,7 @@ one_within room most word some fits = record {
 more_within : (room most : ℕ) (line : List (List ℕ)) (word : List ℕ) → takes room most line word ≡ true
     → IsWithin room most (line ++ word ∷ [])
 more_within room most line word e =
-    let parts = and_parts (nat_lt (length line) most) (nat_le (length (spaced (line ++ word ∷ []))) room) e in
+    let parts = and_parts (nat_lt (length line) most) (nat_le (length (names_text (line ++ word ∷ []))) room) e in
     record {
       has_word = omega (arith, length-append line (word ∷ []));
       few_words = omega (arith, length-append line (word ∷ []), ltb-true (length line) most parts.0);
@@ -84,7 +84,7 @@ more_within room most line word e =
     }
 
 within-filled : (room most : ℕ) (line words : List (List ℕ)) → 0 < most → IsWithin room most line → AllByRecursion
-    (λ w. length w ≤ room) words → AllByRecursion (IsWithin room most) (filled room most line words)
+    (λ w. length w ≤ room) words → AllByRecursion (IsWithin room most) (lines_with room most line words)
 within-filled room most line [] some within fit = (within, tt)
 within-filled room most line (word ∷ words) some within fit =
     elim (cases_Bool (takes room most line word)) [
@@ -95,15 +95,15 @@ within-filled room most line (word ∷ words) some within fit =
     ]
 
 within-by_recursion : (room most : ℕ) (words : List (List ℕ)) → (0 < length words → 0 < most)
-    → AllByRecursion (λ w. length w ≤ room) words → AllByRecursion (IsWithin room most) (cut room most words)
-unfolding cut
+    → AllByRecursion (λ w. length w ≤ room) words → AllByRecursion (IsWithin room most) (cut_lines room most words)
+unfolding cut_lines
 within-by_recursion room most [] some fit = tt
 within-by_recursion room most (word ∷ words) some fit = let more = some (omega arith) in
     within-filled room most (word ∷ []) words more (one_within room most word more fit.0) fit.1
 
 pub within-cut : (room most : ℕ) (words : List (List ℕ)) → (0 < length words → 0 < most)
-    → All (λ w. length w ≤ room) words → All (IsWithin room most) (cut room most words)
-within-cut room most words some fit = All-from_recursion (IsWithin room most) (cut room most words)
+    → All (λ w. length w ≤ room) words → All (IsWithin room most) (cut_lines room most words)
+within-cut room most words some fit = All-from_recursion (IsWithin room most) (cut_lines room most words)
     (within-by_recursion room most words some (recursion_from_All (λ w. length w ≤ room) words fit))
 
 -- ---- each line is full
@@ -115,7 +115,7 @@ record Begins (word : List ℕ) (lines : List (List (List ℕ))) : Type 0 where
   are : lines ≡ (word ∷ more) ∷ others
 
 begins-filled : (room most : ℕ) (word : List ℕ) (line words : List (List ℕ))
-    → Begins word (filled room most (word ∷ line) words)
+    → Begins word (lines_with room most (word ∷ line) words)
 begins-filled room most word line [] = record { more = line; others = []; are = refl }
 begins-filled room most word line (next ∷ words) =
     elim (cases_Bool (takes room most (word ∷ line) next)) [
@@ -123,7 +123,7 @@ begins-filled room most word line (next ∷ words) =
           (begins-filled room most word (line ++ next ∷ []) words)
       | inr full ↦ record {
         more = line;
-        others = filled room most (next ∷ []) words;
+        others = lines_with room most (next ∷ []) words;
         are = filled-full room most (word ∷ line) next words full;
       }
     ]
@@ -134,7 +134,7 @@ full_before : (room most : ℕ) (line : List (List ℕ)) (word : List ℕ) (line
 full_before room most line word lines full begins rest =
     subst (λ ls. AreFull room most (line ∷ ls)) (sym begins.are) (full, subst (AreFull room most) begins.are rest)
 
-full-filled : (room most : ℕ) (line words : List (List ℕ)) → AreFull room most (filled room most line words)
+full-filled : (room most : ℕ) (line words : List (List ℕ)) → AreFull room most (lines_with room most line words)
 full-filled room most line [] = tt
 full-filled room most line (word ∷ words) =
     elim (cases_Bool (takes room most line word)) [
@@ -144,7 +144,7 @@ full-filled room most line (word ∷ words) =
           most line word _ full (begins-filled room most word [] words) (full-filled room most (word ∷ []) words))
     ]
 
-pub full-cut : (room most : ℕ) (words : List (List ℕ)) → AreFull room most (cut room most words)
-unfolding cut
+pub full-cut : (room most : ℕ) (words : List (List ℕ)) → AreFull room most (cut_lines room most words)
+unfolding cut_lines
 full-cut room most [] = tt
 full-cut room most (word ∷ words) = full-filled room most (word ∷ []) words

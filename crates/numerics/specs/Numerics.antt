@@ -45,23 +45,23 @@ abbrev pub sign : Bool → List ℕ
 sign secret = cond secret (codes "@") (codes "=")
 
 -- names in a row, a space between each two
-abbrev pub spaced : List (List ℕ) → List ℕ
-spaced names = join_by (λ name. name) (codes " ") names
+abbrev pub names_text : List (List ℕ) → List ℕ
+names_text names = join_by (λ name. name) (codes " ") names
 
 -- what a numeric says after whom it goes to: its code, its words, and a text after a colon where it has one
-pub record Row : Type 0 where
+pub record RowForm : Type 0 where
   pub code : List ℕ
   pub words : List (List ℕ)
   pub text : Option (List ℕ)
 
-abbrev pub says : List ℕ → List (List ℕ) → List ℕ → Row
+abbrev pub says : List ℕ → List (List ℕ) → List ℕ → RowForm
 says code words text = record { code = code; words = words; text = Some text }
 
-abbrev pub lists : List ℕ → List (List ℕ) → Row
+abbrev pub lists : List ℕ → List (List ℕ) → RowForm
 lists code words = record { code = code; words = words; text = None }
 
 -- the table
-abbrev pub row : List ℕ → Numeric → Row
+abbrev pub row : List ℕ → Numeric → RowForm
 row server (Welcome source) = says (codes "001") [] (codes "Welcome to the Internet Relay Network " ++ source)
 row server (YourHost version) = says (codes "002") []
     (concat (codes "Your host is " ∷ server ∷ codes ", running version " ∷ version ∷ []))
@@ -76,7 +76,7 @@ row server (WhoisUser nick user host real) = says (codes "311") (nick ∷ user �
 row server (WhoisServer nick info) = says (codes "312") (nick ∷ server ∷ []) info
 row server (EndOfWho name) = says (codes "315") (name ∷ []) (codes "End of WHO list")
 row server (EndOfWhois nick) = says (codes "318") (nick ∷ []) (codes "End of WHOIS list")
-row server (WhoisChannels nick channels) = says (codes "319") (nick ∷ []) (spaced channels)
+row server (WhoisChannels nick channels) = says (codes "319") (nick ∷ []) (names_text channels)
 row server (ListReply channel members topic) = says (codes "322") (channel ∷ decimal members ∷ []) topic
 row server ListEnd = says (codes "323") [] (codes "End of LIST")
 row server (ChannelModeIs channel modes params) = lists (codes "324") (channel ∷ modes ∷ params)
@@ -85,7 +85,7 @@ row server (Topic channel topic) = says (codes "332") (channel ∷ []) topic
 row server (Inviting nick channel) = lists (codes "341") (nick ∷ channel ∷ [])
 row server (WhoReply who) = says (codes "352") (who.channel ∷ who.user ∷ who.host ∷ server ∷ who.nick
     ∷ flags who.away who.prefix ∷ []) (codes "0 " ++ who.real)
-row server (NamReply secret channel names) = says (codes "353") (sign secret ∷ channel ∷ []) (spaced names)
+row server (NamReply secret channel names) = says (codes "353") (sign secret ∷ channel ∷ []) (names_text names)
 row server (EndOfNames channel) = says (codes "366") (channel ∷ []) (codes "End of NAMES list")
 row server (BanList channel mask) = lists (codes "367") (channel ∷ mask ∷ [])
 row server (EndOfBanList channel) = says (codes "368") (channel ∷ []) (codes "End of channel ban list")
@@ -135,12 +135,12 @@ row server SaslAlready = says (codes "907") [] (codes "You have already authenti
 row server SaslMechs = says (codes "908") (codes "PLAIN" ∷ []) (codes "are available SASL mechanisms")
 
 -- a word that can't stand as a middle parameter is shown as `*`
-abbrev pub shown : List ℕ → List ℕ
-shown word = cond (needs_colon word) (codes "*") word
+abbrev pub middle_of : List ℕ → List ℕ
+middle_of word = cond (needs_colon word) (codes "*") word
 
 -- a row as a line from a server
-unfoldable pub row_line : List ℕ → List ℕ → Row → Out
-row_line server to r = line server r.code (to ∷ (map shown r.words ++ option_to_list r.text)) (is_some r.text)
+unfoldable pub row_line : List ℕ → List ℕ → RowForm → Out
+row_line server to r = line server r.code (to ∷ (map middle_of r.words ++ option_to_list r.text)) (is_some r.text)
 
 -- `:server NNN to ..`
 unfoldable pub numeric : List ℕ → List ℕ → Numeric → Out

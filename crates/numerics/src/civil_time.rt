@@ -3,7 +3,7 @@ ghost use Rattle.std.specs.Prelude.{◌≡◌, ◌↔◌, ℕ, ◌+◌, ◌<◌,
 ghost use Rattle.numerics.specs.CivilTime.{IsDateOf, LiesOutside, civil_date, clock_text, date_text, time_text};
 ghost use Rattle.numerics.specs.declared.civil_time.TimeFault.TheVariants.{Memory};
 
-use crate::texts::joined;
+use crate::texts::concat;
 use jiff::Timestamp;
 use jiff::civil::Date;
 use jiff::tz::Offset;
@@ -45,7 +45,7 @@ pub fn time_text(alloc: Global, milliseconds: i64) -> Result<Octets, TimeFault>
     let milliseconds = milliseconds.unsigned_abs();
     let date = date_octets(date_of(milliseconds));
     let clock = clock_octets(milliseconds % MILLISECONDS_OF_DAY);
-    let text = joined(alloc, &[&date, b"T", &clock, b"Z"])?;
+    let text = concat(alloc, &[&date, b"T", &clock, b"Z"])?;
     Ok(Octets::from_vec(text))
 }
 

@@ -2,25 +2,25 @@
 //! moments as texts (RFC 3339, section 5.6).
 #![tactic(auto)]
 
-mod borrowed;
 mod civil_time;
-mod cut;
 mod laws;
 mod line;
+mod line_cuts;
 mod numeric;
 mod outgoing;
 mod prefix;
 mod pushing;
+mod row_lines;
 mod rows;
 mod support;
 mod texts;
 
 pub use civil_time::{TimeFault, time_text};
-pub use cut::{split_names, split_tokens};
 pub use laws::{room_for_channels, room_for_names};
 pub use line::Line;
+pub use line_cuts::{split_names, split_tokens};
 pub use numeric::{Numeric, Who};
-pub use outgoing::{Out, copied_all};
-pub use prefix::{Prefix, prefixed};
+pub use outgoing::{Out, copy_all};
+pub use prefix::{Prefix, with_prefix};
 pub use support::tokens;
-pub use texts::spaced;
+pub use texts::joined_by_spaces;

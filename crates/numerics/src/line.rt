@@ -1,11 +1,11 @@
 //! Outgoing lines as they go out (RFC 2812, section 2.3).
 ghost use Rattle.std.specs.Prelude.{◌≡◌, ◌++◌, ◌∷◌, [], map, Some, None, true, false, IfOk};
-ghost use Rattle.numerics.specs.Outgoing.{line, nameless, octets, room, spelled};
+ghost use Rattle.numerics.specs.Outgoing.{line, nameless, octets, room, out_text};
 
 use crate::Out;
 use crate::pushing::{length_of, push_params, push_start, push_text, push_word, push_words};
-use ghosts::{Change, Snapshot, apply, copied};
 use line_grammar::{Octets, OctetsList};
+use snapshots::{GhostChange, Snapshot, apply, copy_of};
 use std::alloc::{AllocError, Global};
 use std::marker::Model;
 
@@ -45,7 +45,7 @@ struct Parts<'a> {
 /// The line of these words.
 struct OfWords;
 
-impl<'a> Change<Out, Parts<'a>> for OfWords {
+impl<'a> GhostChange<Out, Parts<'a>> for OfWords {
     ghost use Rattle.std.specs.Prelude.{map, false};
     ghost use Rattle.numerics.specs.Outgoing.{line};
 
@@ -55,7 +55,7 @@ impl<'a> Change<Out, Parts<'a>> for OfWords {
 /// The line of these words and a text after a colon.
 struct OfText;
 
-impl<'a> Change<Out, Parts<'a>> for OfText {
+impl<'a> GhostChange<Out, Parts<'a>> for OfText {
     ghost use Rattle.std.specs.Prelude.{map, true, ◌++◌, ◌∷◌, []};
     ghost use Rattle.numerics.specs.Outgoing.{line};
 
@@ -65,7 +65,7 @@ impl<'a> Change<Out, Parts<'a>> for OfText {
 
 /// A source, a command and parameters that are borrowed.
 #[derive(Clone, Copy)]
-struct Listed<'a> {
+struct ListedParams<'a> {
     source: &'a [u8],
     command: &'a [u8],
     params: &'a [Octets],
@@ -74,7 +74,7 @@ struct Listed<'a> {
 /// The line of these parameters.
 struct OfParams;
 
-impl<'a> Change<Out, Listed<'a>> for OfParams {
+impl<'a> GhostChange<Out, ListedParams<'a>> for OfParams {
     ghost use Rattle.std.specs.Prelude.{false};
     ghost use Rattle.numerics.specs.Outgoing.{line};
 
@@ -84,16 +84,16 @@ impl<'a> Change<Out, Listed<'a>> for OfParams {
 /// The line of a command and one word, which names nobody whom it comes from.
 struct Nameless;
 
-impl<'a> Change<Out, Parts<'a>> for Nameless {
+impl<'a> GhostChange<Out, Parts<'a>> for Nameless {
     ghost use Rattle.numerics.specs.Outgoing.{nameless};
 
     ghost changed = { λ o p. nameless p.command.now p.text.now };
 }
 
 /// A line with other tags of its client.
-struct Tags;
+struct AddsTags;
 
-impl Change<Out, Octets> for Tags {
+impl GhostChange<Out, Octets> for AddsTags {
     ghost changed = { λ o tags. record o { tags = tags } };
 }
 
@@ -154,7 +154,7 @@ impl Line {
 
     /// A line of parameters, without a client's tags.
     #[tactic(auto, using(crate::proofs::Built::built_words))]
-    pub fn listing(
+    pub fn with_list(
         alloc: Global,
         source: &[u8],
         command: &[u8],
@@ -165,19 +165,19 @@ impl Line {
         let mut text = text_for(alloc, source, command, &[], b"")?;
         push_start(&mut text, source, command)?;
         push_params(&mut text, params)?;
-        let listed = Listed {
+        let listed = ListedParams {
             source,
             command,
             params,
         };
         let mut out = any_line(alloc);
-        apply::<OfParams, Out, Listed<'_>>(&mut out, &listed);
+        apply::<OfParams, Out, ListedParams<'_>>(&mut out, &listed);
         Line::of(alloc, text, out)
     }
 
     /// A line of words and a text after a colon, without a client's tags.
     #[tactic(auto, using(crate::proofs::Built::built_text))]
-    pub fn telling(
+    pub fn with_text(
         alloc: Global,
         source: &[u8],
         command: &[u8],
@@ -228,7 +228,7 @@ impl Line {
         mut text: Vec<u8>,
         out: Snapshot<Out>,
     ) -> Result<Line, AllocError>
-        requires text { text.items ≡ spelled out.value }
+        requires text { text.items ≡ out_text out.value }
         requires tags { out.value.tags ≡ [] }
         ensures { IfOk result (λ l. l ≡ out.value) }
     {
@@ -247,7 +247,7 @@ impl Line {
         ensures { result ≡ record self { tags = tags } }
     {
         let Line { text, mut out, .. } = self;
-        apply::<Tags, Out, Octets>(&mut out, &tags);
+        apply::<AddsTags, Out, Octets>(&mut out, &tags);
         Line { tags, text, out }
     }
 
@@ -296,7 +296,7 @@ impl Clone for Line {
         Ok(Line {
             tags: self.tags.clone()?,
             text: self.text.clone()?,
-            out: copied(&self.out),
+            out: copy_of(&self.out),
         })
     }
 }

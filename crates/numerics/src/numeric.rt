@@ -92,7 +92,7 @@ pub enum Numeric {
     },
     /// 352. A member of a channel, whether the member is away, and with which mark.
     WhoReply(Who),
-    /// 353. Some of the members of a channel, which may be secret; see [`prefixed`].
+    /// 353. Some of the members of a channel, which may be secret; see [`with_prefix`].
     NamReply {
         secret: bool,
         channel: Octets,

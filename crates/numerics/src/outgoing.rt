@@ -20,12 +20,12 @@ pub struct Out {
 }
 
 /// A copy of each of some slices, in order.
-pub fn copied_all(alloc: Global, slices: &[&[u8]]) -> Result<Vec<Octets>, AllocError>
+pub fn copy_all(alloc: Global, slices: &[&[u8]]) -> Result<Vec<Octets>, AllocError>
     ensures { IfOk result (λ all. all.items ≡ map (λ s. s.now) slices.now) }
 {
     let mut copies = Vec::with_capacity(alloc, slices.len())?;
     for slice in slices {
-        copies.push(Octets::copied(alloc, slice)?)?;
+        copies.push(Octets::copy_of(alloc, slice)?)?;
     }
     Ok(copies)
 }

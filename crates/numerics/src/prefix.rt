@@ -27,7 +27,7 @@ impl Prefix {
 }
 
 /// A nickname after its mark, where it has one, as [`NamReply`](crate::Numeric::NamReply) shows it.
-pub fn prefixed(alloc: Global, prefix: Option<Prefix>, nick: &[u8]) -> Result<Octets, AllocError>
+pub fn with_prefix(alloc: Global, prefix: Option<Prefix>, nick: &[u8]) -> Result<Octets, AllocError>
     ensures { IfOk result (λ name. name ≡ marks prefix ++ nick.now) }
 {
     let mut name = Vec::with_capacity(alloc, nick.len().saturating_add(1))?;

@@ -2,7 +2,7 @@
 ghost use Rattle.std.specs.Prelude.{◌≡◌, IfOk};
 ghost use Rattle.numerics.specs.Support.{tokens};
 
-use crate::copied_all;
+use crate::copy_all;
 use line_grammar::Octets;
 use std::alloc::{AllocError, Global};
 
@@ -10,7 +10,7 @@ use std::alloc::{AllocError, Global};
 pub fn tokens(alloc: Global) -> Result<Vec<Octets>, AllocError>
     ensures { IfOk result (λ all. all.items ≡ tokens) }
 {
-    copied_all(
+    copy_all(
         alloc,
         &[
             b"AWAYLEN=200",

@@ -1,7 +1,7 @@
 //! Texts put together.
 ghost use Rattle.std.specs.Prelude.{◌≡◌, ◌∷◌, ◌++◌, IfOk, OnOk};
 ghost use Rattle.std.specs.List.{flat_map};
-ghost use Rattle.numerics.specs.Numerics.{spaced};
+ghost use Rattle.numerics.specs.Numerics.{names_text};
 
 use crate::pushing::length_of;
 use line_grammar::Octets;
@@ -18,7 +18,7 @@ pub(crate) fn push_joined(text: &mut Vec<u8>, pieces: &[&[u8]]) -> Result<(), Al
 }
 
 /// Pieces put together.
-pub(crate) fn joined(alloc: Global, pieces: &[&[u8]]) -> Result<Vec<u8>, AllocError>
+pub(crate) fn concat(alloc: Global, pieces: &[&[u8]]) -> Result<Vec<u8>, AllocError>
     ensures { IfOk result (λ t. t.items ≡ flat_map (λ p. p.now) pieces.now) }
 {
     let mut text = Vec::with_capacity(alloc, length_of(pieces))?;
@@ -40,7 +40,7 @@ fn push_each_spaced(text: &mut Vec<u8>, words: &[Octets]) -> Result<(), AllocErr
 
 /// Adds words, with a space between each two.
 pub(crate) fn push_spaced(text: &mut Vec<u8>, words: &[Octets]) -> Result<(), AllocError>
-    ensures { OnOk result (text.new.items ≡ text.old.items ++ spaced words.now) }
+    ensures { OnOk result (text.new.items ≡ text.old.items ++ names_text words.now) }
 {
     let Some((first, more)) = words.split_first() else {
         return Ok(());
@@ -50,8 +50,8 @@ pub(crate) fn push_spaced(text: &mut Vec<u8>, words: &[Octets]) -> Result<(), Al
 }
 
 /// Words put together, with a space between each two.
-pub fn spaced(alloc: Global, words: &[Octets]) -> Result<Vec<u8>, AllocError>
-    ensures { IfOk result (λ t. t.items ≡ spaced words.now) }
+pub fn joined_by_spaces(alloc: Global, words: &[Octets]) -> Result<Vec<u8>, AllocError>
+    ensures { IfOk result (λ t. t.items ≡ names_text words.now) }
 {
     let mut text = Vec::new(alloc);
     push_spaced(&mut text, words)?;

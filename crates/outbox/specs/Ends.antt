@@ -10,8 +10,8 @@ use Rattle.outbox.specs.declared.rule.Log.{Log}
 use Rattle.outbox.specs.Rule.{log}
 
 -- what a pass knows
-abbrev pub known : Pass Item Log → Log
-known p = view p
+abbrev pub known_by : Pass Item Log → Log
+known_by p = view p
 
 -- which channel a pass is of: all that a pass says but its number and what it knows
 abbrev pub channel_of : Pass Item Log → Pass Item Log

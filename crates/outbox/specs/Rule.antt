@@ -30,11 +30,11 @@ Delivers held passes = (sender : ℕ) × (receiver : ℕ) × (sent : List Item) 
     × ((pass : ℕ) (v : Log) → get_elem? passes pass ≡ some v → Fits sender receiver sent got pass v)
 
 -- the channel is made with a pass for each end: one knows what was sent, the other what was taken
-abbrev pub sending : Log → Log
-sending v = log true false v.sent []
+abbrev pub send_log : Log → Log
+send_log v = log true false v.sent []
 
-abbrev pub taking : Log → Log
-taking v = log false true [] v.got
+abbrev pub take_log : Log → Log
+take_log v = log false true [] v.got
 
 -- an item is put: it is sent after the others
 abbrev pub Puts : Log → Item → Log → Type 0
@@ -54,11 +54,11 @@ abbrev pub Takes : Log → Item → Log → Type 0
 Takes v x w = (w ≡ log v.sends v.takes v.sent (v.got ++ x ∷ [])) × Continues v.got x
 
 -- the two passes are joined to one, and nothing is left of the other
-abbrev pub joined : Log → Log → Log
-joined v w = log true true v.sent w.got
+abbrev pub join_log : Log → Log → Log
+join_log v w = log true true v.sent w.got
 
-abbrev pub spent : Log
-spent = log false false [] []
+abbrev pub spent_log : Log
+spent_log = log false false [] []
 
 -- whoever has both drains the rest: the channel holds what was sent and not taken
 abbrev pub Rests : Log → List Item → Type 0

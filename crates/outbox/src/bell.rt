@@ -15,20 +15,20 @@ const ASLEEP: u64 = 2;
 
 /// A bell that anyone may ring, by which one writer rests. No clause says that a ring ends a rest.
 #[derive(Drop)]
-pub struct Bell {
+pub struct Waker {
     state: Arc<AtomicU64>,
 }
 
-impl Bell {
-    pub(crate) fn new(alloc: Global) -> Result<Bell, AllocError> {
-        Ok(Bell {
+impl Waker {
+    pub(crate) fn new(alloc: Global) -> Result<Waker, AllocError> {
+        Ok(Waker {
             state: Arc::new(alloc, AtomicU64::new(QUIET))?,
         })
     }
 
     /// The same bell once more.
-    pub fn again(&self) -> Result<Bell, AllocError> {
-        Ok(Bell {
+    pub fn again(&self) -> Result<Waker, AllocError> {
+        Ok(Waker {
             state: Arc::try_clone(&self.state)?,
         })
     }

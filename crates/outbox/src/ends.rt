@@ -8,8 +8,8 @@ ghost use Rattle.outbox.specs.Ends.{with_empty, with_item};
 
 mod draining;
 
-use crate::bell::Bell;
-use crate::counted::{CountedReceiver, CountedSender};
+use crate::bell::Waker;
+use crate::counted_ends::{CountedReceiver, CountedSender};
 use crate::gauge::{Gauge, octets_of};
 use crate::queue::{NotPut, Outbox, PutFault};
 use crate::rule::{Ends, InOrder, Log, Put, Take};
@@ -34,7 +34,7 @@ pub struct Closed;
 pub struct Sender<R: Wait + Drop> {
     rt: R,
     sender: CountedSender<Item, Log, InOrder>,
-    bell: Bell,
+    bell: Waker,
     gauge: Gauge,
 }
 
@@ -42,18 +42,18 @@ impl<R: Wait + Drop> Model for Sender<R> {
     ghost use Rattle.std.specs.Prelude.{◌≡◌, true};
     ghost use Rattle.crossbeam_channel.specs.Claims.{IsSeatAt};
     ghost use Rattle.crossbeam_channel.specs.Ends.{sends_on, ruled_capacity};
-    ghost use Rattle.outbox.specs.Ends.{Puttings, channel_of, known};
+    ghost use Rattle.outbox.specs.Ends.{Puttings, channel_of, known_by};
 
     ghost Value = { Puttings };
 
     ghost view = { λ a. record {
-      sent = (known a.sender.pass).sent;
+      sent = (known_by a.sender.pass).sent;
       cap = ruled_capacity (sends_on a.sender.sender);
       channel = channel_of a.sender.pass;
     } };
 
     ghost invariant = { λ a. IsSeatAt (sends_on a.sender.sender) a.sender.pass
-        × ((known a.sender.pass).sends ≡ true) };
+        × ((known_by a.sender.pass).sends ≡ true) };
 }
 
 /// The end that takes. A clause sees all items that were ever taken, how often the channel was found empty, and which
@@ -61,7 +61,7 @@ impl<R: Wait + Drop> Model for Sender<R> {
 #[derive(Drop)]
 pub struct Writer {
     receiver: CountedReceiver<Item, Log, InOrder>,
-    bell: Bell,
+    bell: Waker,
     gauge: Gauge,
 }
 
@@ -69,18 +69,18 @@ impl Model for Writer {
     ghost use Rattle.std.specs.Prelude.{◌≡◌, true};
     ghost use Rattle.crossbeam_channel.specs.Claims.{IsSeatAt};
     ghost use Rattle.crossbeam_channel.specs.Ends.{receives_on};
-    ghost use Rattle.outbox.specs.Ends.{Takings, channel_of, known};
+    ghost use Rattle.outbox.specs.Ends.{Takings, channel_of, known_by};
 
     ghost Value = { Takings };
 
     ghost view = { λ a. record {
-      taken = (known a.receiver.pass).got;
+      taken = (known_by a.receiver.pass).got;
       empties = a.receiver.empties.value;
       channel = channel_of a.receiver.pass;
     } };
 
     ghost invariant = { λ a. IsSeatAt (receives_on a.receiver.receiver) a.receiver.pass
-        × ((known a.receiver.pass).takes ≡ true) };
+        × ((known_by a.receiver.pass).takes ≡ true) };
 }
 
 /// A new outbox for at most `cap` items, by its two ends.
@@ -95,7 +95,7 @@ pub fn pair<R: Wait + Drop>(
     ensures taken { IfOk result (λ p. p.1.taken ≡ []) }
     ensures channel { IfOk result (λ p. p.0.channel ≡ p.1.channel) }
 {
-    let bell = Bell::new(alloc)?;
+    let bell = Waker::new(alloc)?;
     let heard = bell.again()?;
     let gauge = Gauge::new(alloc)?;
     let seen = gauge.again()?;
@@ -118,7 +118,7 @@ pub fn pair<R: Wait + Drop>(
 
 impl<R: Wait + Drop> Sender<R> {
     /// The bell that ends a rest of the other end. A put doesn't ring it.
-    pub fn bell(&self) -> &Bell {
+    pub fn bell(&self) -> &Waker {
         &self.bell
     }
 }
@@ -223,7 +223,7 @@ impl Writer {
     }
 
     /// The bell that ends a rest.
-    pub fn bell(&self) -> &Bell {
+    pub fn bell(&self) -> &Waker {
         &self.bell
     }
 

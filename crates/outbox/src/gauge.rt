@@ -6,7 +6,7 @@ use std::sync::atomic::{AtomicU64, Ordering};
 
 /// Octets of an outbox's deliveries.
 #[derive(Drop)]
-struct Octets {
+struct WaitingOctets {
     /// Of all that were ever put.
     put: AtomicU64,
     /// Of the one that was put last.
@@ -19,7 +19,7 @@ struct Octets {
 /// look. No clause says what one sees: others put and write meanwhile.
 #[derive(Drop)]
 pub struct Gauge {
-    octets: Arc<Octets>,
+    octets: Arc<WaitingOctets>,
 }
 
 /// Octets of a delivery; none of a session's last, whose text is made as it is written.
@@ -32,7 +32,7 @@ pub(crate) fn octets_of(delivery: &Delivery) -> u64 {
 
 impl Gauge {
     pub(crate) fn new(alloc: Global) -> Result<Gauge, AllocError> {
-        let octets = Octets {
+        let octets = WaitingOctets {
             put: AtomicU64::new(0),
             newest: AtomicU64::new(0),
             gone: AtomicU64::new(0),
@@ -50,7 +50,7 @@ impl Gauge {
     }
 
     /// How many octets wait.
-    pub fn waiting(&self) -> u64 {
+    pub fn waiting_octets(&self) -> u64 {
         let gone = self.octets.gone.load(Ordering::SeqCst);
         self.octets.put.load(Ordering::SeqCst).saturating_sub(gone)
     }
@@ -58,7 +58,7 @@ impl Gauge {
     /// How many octets wait besides those of the newest delivery.
     pub fn waiting_besides_newest(&self) -> u64 {
         let newest = self.octets.newest.load(Ordering::SeqCst);
-        self.waiting().saturating_sub(newest)
+        self.waiting_octets().saturating_sub(newest)
     }
 
     /// A delivery of so many octets was put.

@@ -2,15 +2,15 @@
 #![tactic(auto)]
 
 mod bell;
-mod counted;
+mod counted_ends;
 mod ends;
 mod gauge;
 mod queue;
 mod ring;
 mod rule;
 
-pub use bell::Bell;
-pub use counted::Back;
+pub use bell::Waker;
+pub use counted_ends::Unsent;
 pub use ends::{Closed, Empty, Sender, Writer, pair};
 pub use gauge::Gauge;
 pub use queue::{NotPut, Outbox, PutFault};

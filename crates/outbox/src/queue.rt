@@ -1,5 +1,5 @@
 //! What a book asks of an outbox.
-use crate::counted::Back;
+use crate::counted_ends::Unsent;
 use crate::rule::Log;
 use deliveries::Item;
 
@@ -13,7 +13,7 @@ pub enum PutFault {
 }
 
 /// An item that comes back, since it wasn't put, and which channel was found full for it.
-pub type NotPut = Back<Item, Log>;
+pub type NotPut = Unsent<Item, Log>;
 
 /// A queue of items with a bound. One end puts, the other takes.
 pub trait Outbox: Drop {

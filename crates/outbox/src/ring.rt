@@ -1,11 +1,11 @@
 //! A session's outbox as a ring of items.
 ghost use Rattle.std.specs.Prelude.{◌≡◌, IfOk, length, slice_get};
 
-use crate::counted::Back;
+use crate::counted_ends::Unsent;
 use crate::queue::{NotPut, Outbox, PutFault};
 use circular_buffer::HeapCircularBuffer;
 use deliveries::Item;
-use ghosts::{Snapshot, append, blank};
+use snapshots::{Snapshot, append, blank};
 use std::alloc::{AllocError, Global};
 use std::collections::LinkedList;
 use std::marker::Model;
@@ -96,7 +96,7 @@ impl Outbox for Ring {
     {
         match self.items.try_push_back(item) {
             Ok(()) => Ok(()),
-            Err(item) => Err((PutFault::Full, Back::new(item))),
+            Err(item) => Err((PutFault::Full, Unsent::new(item))),
         }
     }
 

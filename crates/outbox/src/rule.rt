@@ -28,19 +28,19 @@ impl Protocol<Item, Log> for InOrder {
 pub(crate) struct Ends;
 
 impl Split<Log> for Ends {
-    ghost use Rattle.outbox.specs.Rule.{sending, taking};
+    ghost use Rattle.outbox.specs.Rule.{send_log, take_log};
 
-    ghost left = { sending };
+    ghost left = { send_log };
 
-    ghost right = { taking };
+    ghost right = { take_log };
 }
 
 impl Join<Log> for Ends {
-    ghost use Rattle.outbox.specs.Rule.{joined, spent};
+    ghost use Rattle.outbox.specs.Rule.{join_log, spent_log};
 
-    ghost both = { joined };
+    ghost both = { join_log };
 
-    ghost spent = { spent };
+    ghost spent = { spent_log };
 }
 
 // A put, and what a put learns that was refused.

@@ -1,8 +1,8 @@
 -- The definitions at work, computed. Sessions 1 and 2 are al and bo, and al has made the secret channel #a.
 use Rattle.std.proofs.Common.{◌≡◌, ℕ, true, false, List, [], ◌∷◌, ◌++◌, codes, Some, None, refl}
-use Rattle.line_grammar.specs.Spelling.{untagged}
+use Rattle.line_grammar.specs.Spelling.{bare_line}
 use Rattle.casemapping.specs.Fold.{fold_of, is_same}
-use Rattle.numerics.specs.Cut.{cut}
+use Rattle.numerics.specs.Cut.{cut_lines}
 use Rattle.numerics.specs.Numerics.{numeric, row_line}
 use Rattle.numerics.specs.Outgoing.{room}
 use Rattle.numerics.specs.declared.numeric.Numeric.TheVariants.{EndOfNames, EndOfWho, EndOfWhois, ListEnd, ListReply}
@@ -13,7 +13,7 @@ use Rattle.channel_state.specs.declared.change.Change.TheVariants.{FlagSet}
 use Rattle.channel_state.specs.declared.modes.Flag.TheVariants.{Secret}
 use Rattle.roster.specs.declared.deed.Deed.{Deed}
 use Rattle.roster.specs.declared.deed.Deed.TheVariants.{Opened, NickSet, UserSet, Enrolled, ChannelMade, Changed}
-use Rattle.roster.specs.LookBack.{after, found}
+use Rattle.roster.specs.LookBack.{after, user_named}
 use Rattle.query_commands.specs.Visible.{channel_for, members_for}
 use Rattle.query_commands.specs.Names.{member_name, names_asked}
 use Rattle.query_commands.specs.Listing.{channels_asked, lists_told}
@@ -50,14 +50,15 @@ seen_from_inside :
       real = codes "Re Al";
     })
     ∷ EndOfWho (codes "#a") ∷ [])
-unfolding channel_for members_for member_name is_same fold_of cut room numeric row_line untagged
+unfolding channel_for members_for member_name is_same fold_of cut_lines room numeric row_line bare_line
 seen_from_inside g = (refl, refl, refl)
 
 -- bo isn't told where al is, and nobody is told of a nickname that nobody has
 who_they_are :
     (g : Settings) → (let told = whois_found (record g { server = codes "s"; info = codes "i" }) secret 2 in
-    (told (codes "AL") (found secret (codes "AL")) ≡ WhoisUser (codes "al") (codes "al") (codes "h") (codes "Re Al")
+    (told (codes "AL") (user_named secret (codes "AL"))
+    ≡ WhoisUser (codes "al") (codes "al") (codes "h") (codes "Re Al")
     ∷ WhoisServer (codes "al") (codes "i") ∷ EndOfWhois (codes "al") ∷ [])
-    × (told (codes "cy") (found secret (codes "cy")) ≡ NoSuchNick (codes "cy") ∷ EndOfWhois (codes "cy") ∷ []))
-unfolding channel_for is_same fold_of cut room numeric row_line untagged
+    × (told (codes "cy") (user_named secret (codes "cy")) ≡ NoSuchNick (codes "cy") ∷ EndOfWhois (codes "cy") ∷ []))
+unfolding channel_for is_same fold_of cut_lines room numeric row_line bare_line
 who_they_are g = (refl, refl)

@@ -2,7 +2,7 @@
 use Rattle.std.proofs.Common.{◌≡◌, ℕ, zero, suc, ◌+◌, ◌<◌, ◌≤◌, List, [], ◌∷◌, ◌++◌, flat_map, length}
 use Rattle.std.proofs.Common.{drop, slice_get, arith, Option, Some, None, refl, sym, ap}
 use Rattle.std.proofs.lemmas.Option.{get_or_from_slice_get}
-use Rattle.drafts.proofs.Turns.{dropped, none_left}
+use Rattle.transactions.proofs.Turns.{dropped, none_left}
 use Rattle.query_commands.specs.Visible.{of_one}
 
 within : {A : Type 0} (xs : List A) (i : ℕ) (x : A) → slice_get xs i ≡ Some x → i < length xs

@@ -1,14 +1,14 @@
 -- What a member is told of a channel that is kept with other members.
 use Rattle.std.proofs.Common.{◌≡◌, ℕ, Bool, true, List, [], ◌∷◌, ◌++◌, map, Option, Some}
 use Rattle.std.proofs.Common.{None, refl, ap, sym, ◌∙◌, if◌then◌else◌}
-use Rattle.channel_state.specs.State.{State, among, uninvited}
+use Rattle.channel_state.specs.State.{State, among, invite_used}
 use Rattle.numerics.specs.declared.prefix.Prefix.{Prefix}
 use Rattle.numerics.specs.declared.prefix.Prefix.TheVariants.{Operator, Voice}
 use Rattle.numerics.specs.Numerics.{marks}
 use Rattle.registration.specs.declared.settings.Settings.{Settings}
 use Rattle.roster.specs.declared.deed.Deed.{Deed}
 use Rattle.roster.specs.LookBack.{nick}
-use Rattle.drafts.specs.Lines.{title}
+use Rattle.transactions.specs.Lines.{title}
 use Rattle.query_commands.specs.Names.{all_told, member_name, names_told, with_members}
 use Rattle.query_commands.specs.Visible.{members_for}
 
@@ -49,9 +49,9 @@ told_to_member g fs s name k members e =
 -- whether somebody is invited changes nothing of that
 pub told_uninvited : (g : Settings) (fs : List Deed) (s : ℕ) (name : List ℕ) (k : State) (members : List ℕ)
     → names_told g fs s (with_members name k members)
-    ≡ names_told g fs s (record { name = name; state = uninvited s (record k { members = members }) })
+    ≡ names_told g fs s (record { name = name; state = invite_used s (record k { members = members }) })
 unfolding members_for
 told_uninvited g fs s name k members =
     let j = record k { members = members } in
     ap (λ ns. all_told g fs s (record { name = name; state = j }) ns)
-    (same_names fs j (uninvited s j) refl refl (members_for fs s j))
+    (same_names fs j (invite_used s j) refl refl (members_for fs s j))

@@ -5,7 +5,7 @@ use Rattle.numerics.specs.declared.numeric.Numeric.{Numeric}
 use Rattle.numerics.specs.declared.numeric.Numeric.TheVariants.{ListReply, ListEnd}
 use Rattle.roster.specs.declared.deed.Deed.{Deed}
 use Rattle.roster.specs.LookBack.{channels}
-use Rattle.drafts.specs.Seen.{Seen}
+use Rattle.transactions.specs.Seen.{Seen}
 use Rattle.command_params.specs.declared.fault.ReadFault.{ReadFault}
 use Rattle.command_params.specs.Lists.{list_given}
 use Rattle.query_commands.specs.declared.query.Query.{Query}
@@ -20,8 +20,8 @@ abbrev pub listed_seen : Option Seen → List Numeric
 listed_seen None = []
 listed_seen (Some k) = ListReply k.name (length k.state.members) (unwrap_or k.state.topic []) ∷ []
 
-abbrev pub listed : List Deed → ℕ → List ℕ → List Numeric
-listed fs s c = listed_seen (channel_for fs s c)
+abbrev pub list_told : List Deed → ℕ → List ℕ → List Numeric
+list_told fs s c = listed_seen (channel_for fs s c)
 
 -- those of a list in its order, or else all in the order of making
 abbrev pub channels_asked : List Deed → Option (List (List ℕ)) → List (List ℕ)
@@ -29,4 +29,4 @@ channels_asked fs None = channels fs
 channels_asked fs (Some cs) = cs
 
 abbrev pub lists_told : List Deed → ℕ → List (List ℕ) → List Numeric
-lists_told fs s cs = flat_map (listed fs s) cs ++ ListEnd ∷ []
+lists_told fs s cs = flat_map (list_told fs s) cs ++ ListEnd ∷ []

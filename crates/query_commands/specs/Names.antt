@@ -7,14 +7,14 @@ use Rattle.numerics.specs.declared.numeric.Numeric.{Numeric}
 use Rattle.numerics.specs.declared.numeric.Numeric.TheVariants.{NamReply, EndOfNames}
 use Rattle.numerics.specs.declared.prefix.Prefix.{Prefix}
 use Rattle.numerics.specs.declared.prefix.Prefix.TheVariants.{Operator, Voice}
-use Rattle.numerics.specs.Cut.{cut}
+use Rattle.numerics.specs.Cut.{cut_lines}
 use Rattle.numerics.specs.Numerics.{numeric, marks}
 use Rattle.numerics.specs.Outgoing.{room}
 use Rattle.registration.specs.declared.settings.Settings.{Settings}
 use Rattle.roster.specs.declared.deed.Deed.{Deed}
 use Rattle.roster.specs.LookBack.{nick}
-use Rattle.drafts.specs.Seen.{Seen}
-use Rattle.drafts.specs.Lines.{title}
+use Rattle.transactions.specs.Seen.{Seen}
+use Rattle.transactions.specs.Lines.{title}
 use Rattle.command_params.specs.declared.fault.ReadFault.{ReadFault}
 use Rattle.command_params.specs.Lists.{list_given}
 use Rattle.query_commands.specs.declared.query.Query.{Query}
@@ -42,7 +42,7 @@ names_room g fs s k = room (numeric g.server (title (nick fs s)) (NamReply k.sta
 
 -- names in as few lines as their order allows; no name makes no line
 abbrev pub name_lines : Seen → ℕ → List (List ℕ) → List Numeric
-name_lines k octets names = map (NamReply k.state.modes.secret k.name) (cut octets (length names) names)
+name_lines k octets names = map (NamReply k.state.modes.secret k.name) (cut_lines octets (length names) names)
 
 -- these names, and that they are all
 abbrev pub all_told : Settings → List Deed → ℕ → Seen → List (List ℕ) → List Numeric

@@ -4,8 +4,8 @@ use Rattle.std.specs.Prelude.{ℕ, List}
 use Rattle.numerics.specs.declared.numeric.Numeric.{Numeric}
 use Rattle.registration.specs.declared.settings.Settings.{Settings}
 use Rattle.roster.specs.declared.deed.Deed.{Deed}
-use Rattle.drafts.specs.declared.effect.Effect.{Effect}
-use Rattle.drafts.specs.Replies.{tells_all}
+use Rattle.transactions.specs.declared.effect.Effect.{Effect}
+use Rattle.transactions.specs.Replies.{tells_all}
 use Rattle.query_commands.specs.declared.query.Query.{Query}
 use Rattle.query_commands.specs.declared.query.Query.TheVariants as query
 use Rattle.query_commands.specs.Names.{names_asked}

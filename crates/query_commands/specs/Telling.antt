@@ -5,9 +5,9 @@ use Rattle.numerics.specs.Numerics.{numeric}
 use Rattle.registration.specs.declared.settings.Settings.{Settings}
 use Rattle.roster.specs.declared.deed.Deed.{Deed}
 use Rattle.roster.specs.LookBack.{nick}
-use Rattle.drafts.specs.declared.effect.Effect.{Effect}
-use Rattle.drafts.specs.declared.effect.Effect.TheVariants.{Answer}
-use Rattle.drafts.specs.Lines.{title}
+use Rattle.transactions.specs.declared.effect.Effect.{Effect}
+use Rattle.transactions.specs.declared.effect.Effect.TheVariants.{Answer}
+use Rattle.transactions.specs.Lines.{title}
 
 pub record Telling : Type 0 where
   -- the server's name

@@ -4,7 +4,7 @@ use Rattle.std.specs.Prelude.{ℕ, Bool, not, ◌||◌, List, [], filter, Option
 use Rattle.channel_state.specs.State.{State, among}
 use Rattle.roster.specs.declared.deed.Deed.{Deed}
 use Rattle.roster.specs.LookBack.{invisible}
-use Rattle.drafts.specs.Seen.{Seen, seen}
+use Rattle.transactions.specs.Seen.{Seen, seen}
 
 -- a secret channel is there for its members alone
 abbrev pub sees : ℕ → State → Bool

@@ -5,8 +5,8 @@ use Rattle.numerics.specs.declared.numeric.Numeric.TheVariants.{WhoReply, EndOfW
 use Rattle.numerics.specs.declared.numeric.Who.{Who}
 use Rattle.roster.specs.declared.deed.Deed.{Deed}
 use Rattle.roster.specs.LookBack.{host, nick, user, real, away}
-use Rattle.drafts.specs.Seen.{Seen}
-use Rattle.drafts.specs.Lines.{title}
+use Rattle.transactions.specs.Seen.{Seen}
+use Rattle.transactions.specs.Lines.{title}
 use Rattle.command_params.specs.declared.fault.ReadFault.{ReadFault}
 use Rattle.command_params.specs.Params.{first_or_none}
 use Rattle.query_commands.specs.declared.query.Query.{Query}

@@ -5,14 +5,14 @@ use Rattle.std.specs.List.{flat_map}
 use Rattle.numerics.specs.declared.numeric.Numeric.{Numeric}
 use Rattle.numerics.specs.declared.numeric.Numeric.TheVariants.{NoSuchNick, WhoisUser, WhoisChannels}
 use Rattle.numerics.specs.declared.numeric.Numeric.TheVariants.{WhoisServer, EndOfWhois, Away}
-use Rattle.numerics.specs.Cut.{cut}
+use Rattle.numerics.specs.Cut.{cut_lines}
 use Rattle.numerics.specs.Numerics.{numeric, marks}
 use Rattle.numerics.specs.Outgoing.{room}
 use Rattle.registration.specs.declared.settings.Settings.{Settings}
 use Rattle.roster.specs.declared.deed.Deed.{Deed}
-use Rattle.roster.specs.LookBack.{host, nick, user, real, away, found, channels_on}
-use Rattle.drafts.specs.Seen.{Seen}
-use Rattle.drafts.specs.Lines.{title}
+use Rattle.roster.specs.LookBack.{host, nick, user, real, away, user_named, channels_on}
+use Rattle.transactions.specs.Seen.{Seen}
+use Rattle.transactions.specs.Lines.{title}
 use Rattle.command_params.specs.declared.fault.ReadFault.{ReadFault}
 use Rattle.command_params.specs.declared.fault.ReadFault.TheVariants.{NoNicknameGiven}
 use Rattle.line_grammar.specs.Parts.{is_empty}
@@ -43,7 +43,7 @@ abbrev pub channels_room : Settings → List Deed → ℕ → List ℕ → ℕ
 channels_room g fs s n = room (numeric g.server (title (nick fs s)) (WhoisChannels n []))
 
 abbrev pub channel_lines : List ℕ → ℕ → List (List ℕ) → List Numeric
-channel_lines n octets names = map (WhoisChannels n) (cut octets (length names) names)
+channel_lines n octets names = map (WhoisChannels n) (cut_lines octets (length names) names)
 
 abbrev pub channels_told : Settings → List Deed → ℕ → ℕ → List ℕ → List Numeric
 channels_told g fs s t n = channel_lines n (channels_room g fs s n) (channel_titles fs s t)
@@ -65,4 +65,4 @@ whois_found g fs s n None = NoSuchNick n ∷ EndOfWhois n ∷ []
 whois_found g fs s n (Some t) = user_told g fs s t (title (nick fs t))
 
 abbrev pub whois_asked : Settings → List Deed → ℕ → List ℕ → List Numeric
-whois_asked g fs s n = whois_found g fs s n (found fs n)
+whois_asked g fs s n = whois_found g fs s n (user_named fs n)

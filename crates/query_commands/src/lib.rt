@@ -2,13 +2,13 @@
 //! and 3.6.2).
 #![tactic(auto)]
 
-mod each;
+mod each_item;
 mod listing;
 mod motd;
 mod name_line;
 mod names;
 mod query;
-mod telling;
+mod reply_builder;
 mod visible;
 mod who;
 mod whois;
@@ -17,6 +17,6 @@ pub use listing::read_list;
 pub use motd::{push_motd, read_motd};
 pub use names::{push_members, read_names};
 pub use query::{Query, ask};
-pub use telling::Telling;
+pub use reply_builder::ReplyBuilder;
 pub use who::read_who;
 pub use whois::read_whois;

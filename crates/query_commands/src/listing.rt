@@ -5,20 +5,20 @@ ghost use Rattle.roster.specs.LookBack.{channels as all_channels};
 ghost use Rattle.command_params.specs.Params.{IsRead};
 ghost use Rattle.query_commands.specs.Visible.{of_one, seen_by};
 ghost use Rattle.query_commands.specs.Telling.{telling_more};
-ghost use Rattle.query_commands.specs.Listing.{channels_asked, list_query, listed, listed_seen, lists_told};
+ghost use Rattle.query_commands.specs.Listing.{channels_asked, list_query, list_told, listed_seen, lists_told};
 
 use crate::Query;
-use crate::each::{TellsOf, tell_of_each};
-use crate::telling::Telling;
+use crate::each_item::{AnswersEach, tell_of_each};
+use crate::reply_builder::ReplyBuilder;
 use crate::visible::sees;
 use channel_state::ChannelState;
 use chronicle::SessionId;
 use command_params::{ReadFault, read_list_given};
-use drafts::Draft;
 use line_grammar::{LineParameters, Octets, OctetsList};
 use numerics::Numeric;
 use roster::Roster;
 use std::alloc::{AllocError, Global};
+use transactions::Transaction;
 
 /// What LIST asks for.
 pub fn read_list(alloc: Global, params: &LineParameters<'_>) -> Result<Query, ReadFault>
@@ -34,14 +34,14 @@ fn topic_of(alloc: Global, topic: Option<&Octets>) -> Result<Octets, AllocError>
 {
     match topic {
         Some(topic) => topic.clone(),
-        None => Octets::copied(alloc, b""),
+        None => Octets::copy_of(alloc, b""),
     }
 }
 
 /// Adds a channel, where the session sees it.
 fn push_seen(
     alloc: Global,
-    telling: &mut Telling<'_>,
+    telling: &mut ReplyBuilder<'_>,
     session: SessionId,
     name: &Octets,
     state: &ChannelState,
@@ -64,19 +64,19 @@ fn push_seen(
 
 /// The channels of given names, as a session sees them.
 #[derive(Clone, Copy)]
-struct Given<'a> {
+struct GivenChannels<'a> {
     alloc: Global,
     roster: &'a Roster,
     session: SessionId,
 }
 
-impl TellsOf<Octets> for Given<'_> {
-    ghost use Rattle.query_commands.specs.Listing.{listed};
+impl AnswersEach<Octets> for GivenChannels<'_> {
+    ghost use Rattle.query_commands.specs.Listing.{list_told};
 
-    ghost told_of = { λ given channel. listed given.roster.now.facts given.session channel };
+    ghost told_of = { λ given channel. list_told given.roster.now.facts given.session channel };
 
     #[tactic(auto, unfolding(crate::specs::Visible::channel_for))]
-    fn tell_of(&self, telling: &mut Telling<'_>, channel: &Octets) -> Result<(), AllocError> {
+    fn tell_of(&self, telling: &mut ReplyBuilder<'_>, channel: &Octets) -> Result<(), AllocError> {
         match self.roster.channel(channel.as_slice()) {
             Some((name, state)) => push_seen(self.alloc, telling, self.session, name, state),
             None => Ok(()),
@@ -88,12 +88,12 @@ impl TellsOf<Octets> for Given<'_> {
 fn push_at(
     alloc: Global,
     roster: &Roster,
-    telling: &mut Telling<'_>,
+    telling: &mut ReplyBuilder<'_>,
     session: SessionId,
     place: usize,
 ) -> Result<(), AllocError>
     ensures { OnOk result (telling.new ≡ telling_more telling.old (of_one
-        (listed roster.now.facts session) (slice_get (all_channels roster.now.facts) place))) }
+        (list_told roster.now.facts session) (slice_get (all_channels roster.now.facts) place))) }
 {
     let Some((name, state)) = roster.nth_channel(place) else {
         return Ok(());
@@ -106,11 +106,11 @@ fn push_at(
 fn push_all(
     alloc: Global,
     roster: &Roster,
-    telling: &mut Telling<'_>,
+    telling: &mut ReplyBuilder<'_>,
     session: SessionId,
 ) -> Result<(), AllocError>
     ensures { OnOk result (telling.new ≡ telling_more telling.old
-        (flat_map (listed roster.now.facts session) (all_channels roster.now.facts))) }
+        (flat_map (list_told roster.now.facts session) (all_channels roster.now.facts))) }
 {
     telling.reserve(roster.channel_count())?;
     for place in 0..roster.channel_count() {
@@ -122,18 +122,18 @@ fn push_all(
 /// LIST: the channels of a list, or all, as far as the session is let see.
 #[tactic(auto, using(crate::proofs::Told::more_more))]
 pub(crate) fn answer(
-    draft: &Draft<'_>,
-    telling: &mut Telling<'_>,
+    tx: &Transaction<'_>,
+    telling: &mut ReplyBuilder<'_>,
     session: SessionId,
     channels: &Option<OctetsList>,
 ) -> Result<(), AllocError>
     ensures { OnOk result (telling.new ≡ telling_more telling.old
-        (lists_told draft.now.base session (channels_asked draft.now.base channels.now))) }
+        (lists_told tx.now.base session (channels_asked tx.now.base channels.now))) }
 {
-    let (alloc, roster) = (draft.alloc(), draft.before());
+    let (alloc, roster) = (tx.alloc(), tx.before());
     match channels {
         Some(channels) => {
-            let given = Given {
+            let given = GivenChannels {
                 alloc,
                 roster,
                 session,

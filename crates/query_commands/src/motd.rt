@@ -6,25 +6,25 @@ ghost use Rattle.query_commands.specs.Telling.{telling_more};
 ghost use Rattle.query_commands.specs.Motd.{motd_asked, motd_numerics, motd_query};
 
 use crate::Query;
-use crate::telling::Telling;
+use crate::reply_builder::ReplyBuilder;
 use casemapping::is_same;
-use command_params::{ReadFault, copied_first};
-use drafts::Draft;
+use command_params::{ReadFault, copy_first};
 use line_grammar::{LineParameters, Octets, OctetsList};
 use numerics::Numeric;
 use std::alloc::{AllocError, Global};
+use transactions::Transaction;
 
 /// What MOTD asks for.
 pub fn read_motd(alloc: Global, params: &LineParameters<'_>) -> Result<Query, ReadFault>
     ensures { IsRead (motd_query params.now) result }
 {
-    let server = copied_first(alloc, params)?;
+    let server = copy_first(alloc, params)?;
     Ok(Query::Motd { server })
 }
 
 /// Adds lines of the message of the day.
 #[tactic(auto, using(crate::proofs::Told::more_more))]
-fn push_motd_lines(telling: &mut Telling<'_>, lines: &[Octets]) -> Result<(), AllocError>
+fn push_motd_lines(telling: &mut ReplyBuilder<'_>, lines: &[Octets]) -> Result<(), AllocError>
     ensures { OnOk result (telling.new ≡ telling_more telling.old (map MotdLine lines.now)) }
 {
     for line in lines {
@@ -35,7 +35,10 @@ fn push_motd_lines(telling: &mut Telling<'_>, lines: &[Octets]) -> Result<(), Al
 
 /// Adds the message of the day.
 #[tactic(auto, using(crate::proofs::Told::more_more))]
-pub fn push_motd(telling: &mut Telling<'_>, motd: &Option<OctetsList>) -> Result<(), AllocError>
+pub fn push_motd(
+    telling: &mut ReplyBuilder<'_>,
+    motd: &Option<OctetsList>,
+) -> Result<(), AllocError>
     ensures { OnOk result (telling.new ≡ telling_more telling.old (motd_numerics motd.now)) }
 {
     match motd {
@@ -51,14 +54,14 @@ pub fn push_motd(telling: &mut Telling<'_>, motd: &Option<OctetsList>) -> Result
 
 /// MOTD: the message of the day of a server that was asked for, where it is this one.
 pub(crate) fn answer(
-    draft: &Draft<'_>,
-    telling: &mut Telling<'_>,
+    tx: &Transaction<'_>,
+    telling: &mut ReplyBuilder<'_>,
     server: &Option<Octets>,
 ) -> Result<(), AllocError>
     ensures { OnOk result
-        (telling.new ≡ telling_more telling.old (motd_asked draft.now.settings server.now)) }
+        (telling.new ≡ telling_more telling.old (motd_asked tx.now.settings server.now)) }
 {
-    let settings = draft.before().settings();
+    let settings = tx.before().settings();
     match server {
         Some(server) if !is_same(server.as_slice(), settings.server.as_slice()) => {
             telling.push(Numeric::NoSuchServer(server.clone()?))

@@ -1,11 +1,11 @@
 //! Names of members, spelled into the text of the line that tells them (RFC 2812, section 3.2.5).
 ghost use Rattle.std.specs.Prelude.{◌≡◌, ◌∷◌, ◌++◌, [], length, nat_le, IfOk, OnOk};
 ghost use Rattle.numerics.specs.declared.numeric.Numeric.TheVariants.{NamReply};
-ghost use Rattle.numerics.specs.Numerics.{numeric as numeric_line, spaced};
+ghost use Rattle.numerics.specs.Numerics.{numeric as numeric_line, names_text};
 
-use ghosts::{Change, Snapshot, apply, blank, copied};
 use line_grammar::{Octets, OctetsList};
 use numerics::{Line, Numeric, Prefix};
+use snapshots::{GhostChange, Snapshot, apply, blank, copy_of};
 use std::alloc::{AllocError, Global};
 use std::collections::LinkedList;
 use std::marker::Model;
@@ -58,19 +58,19 @@ pub(crate) struct NameLine {
 
 impl Model for NameLine {
     ghost use Rattle.std.specs.Prelude.{◌≡◌, ◌<◌, List, ℕ, length};
-    ghost use Rattle.numerics.specs.Numerics.{spaced};
+    ghost use Rattle.numerics.specs.Numerics.{names_text};
 
     ghost Value = { List (List ℕ) };
 
     ghost view = { λ a. a.names.value };
 
-    ghost invariant = { λ a. (a.text.items ≡ spaced a.names.value) × (0 < length a.names.value) };
+    ghost invariant = { λ a. (a.text.items ≡ names_text a.names.value) × (0 < length a.names.value) };
 }
 
 // A name is added, as the last.
 struct AddsName;
 
-impl<'a> Change<LinkedList<Octets>, MemberName<'a>> for AddsName {
+impl<'a> GhostChange<LinkedList<Octets>, MemberName<'a>> for AddsName {
     ghost use Rattle.std.specs.Prelude.{◌++◌, ◌∷◌, []};
 
     ghost changed = { λ ns n. ns ++ n ∷ [] };
@@ -96,7 +96,7 @@ impl NameLine {
     /// Whether so many octets have room for one name more.
     #[tactic(auto, using(crate::proofs::NameLines::more_octets))]
     pub(crate) fn takes(&self, name: &MemberName<'_>, room: usize) -> bool
-        ensures { result ≡ nat_le (length (spaced (self.now ++ name.now ∷ []))) room }
+        ensures { result ≡ nat_le (length (names_text (self.now ++ name.now ∷ []))) room }
     {
         let octets = self.text.len();
         octets < room && name.len() < room - octets
@@ -124,12 +124,12 @@ impl NameLine {
     pub(crate) fn names(&self) -> Snapshot<LinkedList<Octets>>
         ensures { result.value ≡ self.now }
     {
-        copied(&self.names)
+        copy_of(&self.names)
     }
 
     /// The line that tells somebody the names of a channel: it spells the text as one name.
     #[tactic(auto, using(crate::proofs::NameLines::told_as_one))]
-    pub(crate) fn told(
+    pub(crate) fn numeric(
         self,
         alloc: Global,
         server: &[u8],

@@ -10,19 +10,19 @@ ghost use Rattle.query_commands.specs.Names.{rank_of, member_name, names_room, n
 ghost use Rattle.query_commands.specs.Names.{names_told, with_members, names_of, names_asked, names_query};
 
 use crate::Query;
-use crate::each::{TellsOf, tell_of_each};
+use crate::each_item::{AnswersEach, tell_of_each};
 use crate::name_line::{MemberName, NameLine};
-use crate::telling::Telling;
+use crate::reply_builder::ReplyBuilder;
 use crate::visible::{Listed, channel_for, members_for};
 use channel_state::ChannelState;
 use chronicle::SessionId;
 use command_params::{ReadFault, read_list_given};
-use drafts::{Draft, title_of, title_text};
 use line_grammar::{LineParameters, Octets, OctetsList};
 use numerics::{Numeric, Prefix};
 use roster::Roster;
 use std::alloc::{AllocError, Global};
 use std::mem::replace;
+use transactions::{Transaction, title_of, title_text};
 
 /// What NAMES asks for.
 pub fn read_names(alloc: Global, params: &LineParameters<'_>) -> Result<Query, ReadFault>
@@ -70,16 +70,16 @@ pub(crate) fn room_of(
 
 /// How many octets of names a line has room for.
 fn names_room(
-    draft: &Draft<'_>,
+    tx: &Transaction<'_>,
     session: SessionId,
     listed: &Listed<'_>,
 ) -> Result<usize, AllocError>
     ensures { IfOk result
-        (λ n. n ≡ names_room draft.now.settings draft.now.base session listed.now) }
+        (λ n. n ≡ names_room tx.now.settings tx.now.base session listed.now) }
 {
-    let alloc = draft.alloc();
-    let to = title_of(alloc, draft.before().nick_of(session))?;
-    let server = draft.before().settings().server.as_slice();
+    let alloc = tx.alloc();
+    let to = title_of(alloc, tx.before().nick_of(session))?;
+    let server = tx.before().settings().server.as_slice();
     let secret = listed.state.modes().secret;
     let channel = listed.name.clone()?;
     let names = OctetsList::from_vec(Vec::new(alloc));
@@ -94,7 +94,7 @@ fn names_room(
 /// Adds the names of members in as few lines as their order allows.
 fn push_names(
     alloc: Global,
-    telling: &mut Telling<'_>,
+    telling: &mut ReplyBuilder<'_>,
     roster: &Roster,
     listed: &Listed<'_>,
     members: &[SessionId],
@@ -123,76 +123,69 @@ fn push_names(
 /// Adds the names of members of a channel, and that they are all.
 #[tactic(auto, using(crate::proofs::Told::more_more))]
 fn push_all(
-    draft: &Draft<'_>,
-    telling: &mut Telling<'_>,
+    tx: &Transaction<'_>,
+    telling: &mut ReplyBuilder<'_>,
     session: SessionId,
     listed: &Listed<'_>,
     members: &[SessionId],
 ) -> Result<(), AllocError>
     ensures { OnOk result (telling.new ≡ telling_more telling.old
-        (all_told draft.now.settings draft.now.base session listed.now
-        (map (member_name draft.now.base listed.now.state) members.now))) }
+        (all_told tx.now.settings tx.now.base session listed.now
+        (map (member_name tx.now.base listed.now.state) members.now))) }
 {
-    let room = names_room(draft, session, listed)?;
-    push_names(
-        draft.alloc(),
-        telling,
-        draft.before(),
-        listed,
-        members,
-        room,
-    )?;
+    let room = names_room(tx, session, listed)?;
+    push_names(tx.alloc(), telling, tx.before(), listed, members, room)?;
     let channel = listed.name.clone()?;
     telling.push(Numeric::EndOfNames(channel))
 }
 
 /// Adds who is on a channel that a session sees.
 fn push_listed(
-    draft: &Draft<'_>,
-    telling: &mut Telling<'_>,
+    tx: &Transaction<'_>,
+    telling: &mut ReplyBuilder<'_>,
     session: SessionId,
     listed: &Listed<'_>,
 ) -> Result<(), AllocError>
     ensures { OnOk result (telling.new ≡ telling_more telling.old
-        (names_told draft.now.settings draft.now.base session listed.now)) }
+        (names_told tx.now.settings tx.now.base session listed.now)) }
 {
-    let members = members_for(draft.alloc(), draft.before(), session, listed.state)?;
-    push_all(draft, telling, session, listed, members.as_slice())
+    let members = members_for(tx.alloc(), tx.before(), session, listed.state)?;
+    push_all(tx, telling, session, listed, members.as_slice())
 }
 
 /// Adds who is on a channel, as a session that is one of them is told: 353 in as few lines as fit, and 366. The
 /// channel is this one but for its members. Nicknames are those before the record.
 pub fn push_members(
-    draft: &Draft<'_>,
-    telling: &mut Telling<'_>,
+    tx: &Transaction<'_>,
+    telling: &mut ReplyBuilder<'_>,
     session: SessionId,
     name: &Octets,
     state: &ChannelState,
     members: &[SessionId],
 ) -> Result<(), AllocError>
     requires { among session members.now ≡ true }
-    ensures { OnOk result (telling.new ≡ telling_more telling.old (names_told draft.now.settings
-        draft.now.base session (with_members name.now state.now.state members.now))) }
+    ensures { OnOk result (telling.new ≡ telling_more telling.old (names_told tx.now.settings
+        tx.now.base session (with_members name.now state.now.state members.now))) }
 {
-    push_all(draft, telling, session, &Listed { name, state }, members)
+    push_all(tx, telling, session, &Listed { name, state }, members)
 }
 
 /// Whom a session is told of, who asks for them by the names of channels.
 #[derive(Clone, Copy)]
 struct Asking<'a, 'b> {
-    draft: &'a Draft<'b>,
+    tx: &'a Transaction<'b>,
     session: SessionId,
 }
 
-impl TellsOf<Octets> for Asking<'_, '_> {
+impl AnswersEach<Octets> for Asking<'_, '_> {
     ghost use Rattle.query_commands.specs.Names.{names_of};
 
-    ghost told_of = { λ asking channel. names_of asking.draft.now.settings asking.draft.now.base
+    ghost told_of = { λ asking channel. names_of asking.tx.now.settings asking.tx.now.base
         asking.session channel };
 
-    fn tell_of(&self, telling: &mut Telling<'_>, channel: &Octets) -> Result<(), AllocError> {
-        match channel_for(self.draft.before(), self.session, channel.as_slice()) {
-            Some(listed) => push_listed(self.draft, telling, self.session, &listed),
+    fn tell_of(&self, telling: &mut ReplyBuilder<'_>, channel: &Octets) -> Result<(), AllocError> {
+        match channel_for(self.tx.before(), self.session, channel.as_slice()) {
+            Some(listed) => push_listed(self.tx, telling, self.session, &listed),
             None => {
                 let channel = channel.clone()?;
                 telling.push(Numeric::EndOfNames(channel))
@@ -203,16 +196,16 @@ impl TellsOf<Octets> for Asking<'_, '_> {
 
 /// NAMES: who is on each channel of a list, as far as the session is let see.
 pub(crate) fn answer(
-    draft: &Draft<'_>,
-    telling: &mut Telling<'_>,
+    tx: &Transaction<'_>,
+    telling: &mut ReplyBuilder<'_>,
     session: SessionId,
     channels: &Option<OctetsList>,
 ) -> Result<(), AllocError>
     ensures { OnOk result (telling.new ≡ telling_more telling.old
-        (names_asked draft.now.settings draft.now.base session channels.now)) }
+        (names_asked tx.now.settings tx.now.base session channels.now)) }
 {
     match channels {
-        Some(channels) => tell_of_each(&Asking { draft, session }, telling, channels.as_slice()),
-        None => telling.push(Numeric::EndOfNames(Octets::copied(draft.alloc(), b"*")?)),
+        Some(channels) => tell_of_each(&Asking { tx, session }, telling, channels.as_slice()),
+        None => telling.push(Numeric::EndOfNames(Octets::copy_of(tx.alloc(), b"*")?)),
     }
 }

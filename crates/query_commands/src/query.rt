@@ -1,15 +1,15 @@
 //! The commands that only ask, and what each is told.
 ghost use Rattle.std.specs.Prelude.{◌≡◌, OnOk};
-ghost use Rattle.drafts.specs.Words.{grown};
+ghost use Rattle.transactions.specs.Words.{grown};
 ghost use Rattle.query_commands.specs.Query.{queries, told};
 ghost use Rattle.query_commands.specs.Telling.{telling_more};
 
-use crate::telling::Telling;
+use crate::reply_builder::ReplyBuilder;
 use crate::{listing, motd, names, who, whois};
 use chronicle::SessionId;
-use drafts::Draft;
 use line_grammar::{Octets, OctetsList};
 use std::alloc::AllocError;
+use transactions::Transaction;
 
 /// What is asked. Names are as given. A list of names has no empty one, and none that repeats another in either
 /// case.
@@ -29,30 +29,30 @@ pub enum Query {
 
 /// Adds what a session is told that asks.
 fn answer(
-    draft: &Draft<'_>,
-    telling: &mut Telling<'_>,
+    tx: &Transaction<'_>,
+    telling: &mut ReplyBuilder<'_>,
     session: SessionId,
     query: &Query,
 ) -> Result<(), AllocError>
     ensures { OnOk result (telling.new
-        ≡ telling_more telling.old (told draft.now.settings draft.now.base session query.now)) }
+        ≡ telling_more telling.old (told tx.now.settings tx.now.base session query.now)) }
 {
     match query {
-        Query::Names { channels } => names::answer(draft, telling, session, channels),
-        Query::List { channels } => listing::answer(draft, telling, session, channels),
-        Query::Who { name } => who::answer(draft, telling, session, name),
-        Query::Whois { nick } => whois::answer(draft, telling, session, nick),
-        Query::Motd { server } => motd::answer(draft, telling, server),
+        Query::Names { channels } => names::answer(tx, telling, session, channels),
+        Query::List { channels } => listing::answer(tx, telling, session, channels),
+        Query::Who { name } => who::answer(tx, telling, session, name),
+        Query::Whois { nick } => whois::answer(tx, telling, session, nick),
+        Query::Motd { server } => motd::answer(tx, telling, server),
     }
 }
 
 /// Answers a query by the facts before the record.
-pub fn ask(draft: &mut Draft, session: SessionId, query: &Query) -> Result<(), AllocError>
-    requires { draft.old.facts ≡ draft.old.base }
-    ensures { OnOk result (draft.new
-        ≡ grown draft.old (queries draft.old.settings draft.old.facts session query.now)) }
+pub fn ask(tx: &mut Transaction, session: SessionId, query: &Query) -> Result<(), AllocError>
+    requires { tx.old.facts ≡ tx.old.base }
+    ensures { OnOk result (tx.new
+        ≡ grown tx.old (queries tx.old.settings tx.old.facts session query.now)) }
 {
-    let mut telling = Telling::new(draft, session)?;
-    answer(draft, &mut telling, session, query)?;
-    telling.finish(draft)
+    let mut telling = ReplyBuilder::new(tx, session)?;
+    answer(tx, &mut telling, session, query)?;
+    telling.finish(tx)
 }

@@ -19,7 +19,7 @@ pub(crate) struct Listed<'a> {
 }
 
 impl<'a> Model for Listed<'a> {
-    ghost use Rattle.drafts.specs.Seen.{Seen};
+    ghost use Rattle.transactions.specs.Seen.{Seen};
 
     ghost Value = { Seen };
 
@@ -87,7 +87,7 @@ pub(crate) fn members_for(
     ensures { IfOk result (λ v. v ≡ members_for roster.now.facts session state.now.state) }
 {
     if state.has(session) {
-        return Sessions::copied(alloc, state.members());
+        return Sessions::copy_of(alloc, state.members());
     }
     shown_members(alloc, roster, state.members())
 }

@@ -6,23 +6,23 @@ ghost use Rattle.query_commands.specs.Telling.{telling_more};
 ghost use Rattle.query_commands.specs.Who.{who_asked, who_of, who_query, who_seen};
 
 use crate::Query;
-use crate::each::{TellsOf, tell_of_each};
+use crate::each_item::{AnswersEach, tell_of_each};
 use crate::names::rank_of;
-use crate::telling::Telling;
+use crate::reply_builder::ReplyBuilder;
 use crate::visible::{Listed, channel_for, members_for};
 use chronicle::SessionId;
-use command_params::{ReadFault, copied_first};
-use drafts::{Draft, title_of};
+use command_params::{ReadFault, copy_first};
 use line_grammar::{LineParameters, Octets};
 use numerics::{Numeric, Who};
 use roster::Roster;
 use std::alloc::{AllocError, Global};
+use transactions::{Transaction, title_of};
 
 /// What WHO asks for.
 pub fn read_who(alloc: Global, params: &LineParameters<'_>) -> Result<Query, ReadFault>
     ensures { IsRead (who_query params.now) result }
 {
-    let name = copied_first(alloc, params)?;
+    let name = copy_first(alloc, params)?;
     Ok(Query::Who { name })
 }
 
@@ -32,7 +32,7 @@ pub(crate) fn real_of(alloc: Global, real: Option<&Octets>) -> Result<Octets, Al
 {
     match real {
         Some(real) => real.clone(),
-        None => Octets::copied(alloc, b""),
+        None => Octets::copy_of(alloc, b""),
     }
 }
 
@@ -47,7 +47,7 @@ fn who_of(
 {
     let channel = listed.name.clone()?;
     let user = title_of(alloc, roster.user_of(member))?;
-    let host = Octets::copied(alloc, roster.host_of(member))?;
+    let host = Octets::copy_of(alloc, roster.host_of(member))?;
     let nick = title_of(alloc, roster.nick_of(member))?;
     let real = real_of(alloc, roster.real_of(member))?;
     Ok(Who {
@@ -63,13 +63,13 @@ fn who_of(
 
 /// Members of a channel.
 #[derive(Clone, Copy)]
-struct Members<'a, 'b> {
+struct ChannelMembers<'a, 'b> {
     alloc: Global,
     roster: &'a Roster,
     listed: &'a Listed<'b>,
 }
 
-impl TellsOf<SessionId> for Members<'_, '_> {
+impl AnswersEach<SessionId> for ChannelMembers<'_, '_> {
     ghost use Rattle.std.specs.Prelude.{◌∷◌, []};
     ghost use Rattle.numerics.specs.declared.numeric.Numeric.TheVariants.{WhoReply};
     ghost use Rattle.query_commands.specs.Who.{who_of};
@@ -77,7 +77,11 @@ impl TellsOf<SessionId> for Members<'_, '_> {
     ghost told_of = { λ of member. WhoReply (who_of of.roster.now.facts of.listed.now member)
         ∷ [] };
 
-    fn tell_of(&self, telling: &mut Telling<'_>, member: &SessionId) -> Result<(), AllocError> {
+    fn tell_of(
+        &self,
+        telling: &mut ReplyBuilder<'_>,
+        member: &SessionId,
+    ) -> Result<(), AllocError> {
         let who = who_of(self.alloc, self.roster, self.listed, *member)?;
         telling.push(Numeric::WhoReply(who))
     }
@@ -88,7 +92,7 @@ impl TellsOf<SessionId> for Members<'_, '_> {
 fn push_members(
     alloc: Global,
     roster: &Roster,
-    telling: &mut Telling<'_>,
+    telling: &mut ReplyBuilder<'_>,
     listed: &Listed<'_>,
     members: &[SessionId],
 ) -> Result<(), AllocError>
@@ -96,7 +100,7 @@ fn push_members(
         (map (λ t. WhoReply (who_of roster.now.facts listed.now t)) members.now)) }
 {
     telling.reserve(members.len())?;
-    let of = Members {
+    let of = ChannelMembers {
         alloc,
         roster,
         listed,
@@ -109,7 +113,7 @@ fn push_members(
 fn push_listed(
     alloc: Global,
     roster: &Roster,
-    telling: &mut Telling<'_>,
+    telling: &mut ReplyBuilder<'_>,
     session: SessionId,
     listed: &Listed<'_>,
 ) -> Result<(), AllocError>
@@ -122,24 +126,24 @@ fn push_listed(
 }
 
 /// Adds what a session is told of a name that is no channel it sees.
-fn push_end(alloc: Global, telling: &mut Telling<'_>, name: &[u8]) -> Result<(), AllocError>
+fn push_end(alloc: Global, telling: &mut ReplyBuilder<'_>, name: &[u8]) -> Result<(), AllocError>
     ensures { OnOk result (telling.new ≡ telling_more telling.old (EndOfWho name.now ∷ [])) }
 {
-    let name = Octets::copied(alloc, name)?;
+    let name = Octets::copy_of(alloc, name)?;
     telling.push(Numeric::EndOfWho(name))
 }
 
 /// WHO: who is on a channel, as far as the session is let see.
 pub(crate) fn answer(
-    draft: &Draft<'_>,
-    telling: &mut Telling<'_>,
+    tx: &Transaction<'_>,
+    telling: &mut ReplyBuilder<'_>,
     session: SessionId,
     name: &Option<Octets>,
 ) -> Result<(), AllocError>
     ensures { OnOk result
-        (telling.new ≡ telling_more telling.old (who_asked draft.now.base session name.now)) }
+        (telling.new ≡ telling_more telling.old (who_asked tx.now.base session name.now)) }
 {
-    let (alloc, roster) = (draft.alloc(), draft.before());
+    let (alloc, roster) = (tx.alloc(), tx.before());
     let Some(name) = name else {
         return push_end(alloc, telling, b"*");
     };

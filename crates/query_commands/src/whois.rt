@@ -4,7 +4,7 @@ ghost use Rattle.std.specs.List.{flat_map};
 ghost use Rattle.numerics.specs.declared.numeric.Numeric.TheVariants.{EndOfWhois, NoSuchNick};
 ghost use Rattle.numerics.specs.declared.numeric.Numeric.TheVariants.{WhoisChannels, WhoisServer};
 ghost use Rattle.roster.specs.LookBack.{nick};
-ghost use Rattle.drafts.specs.Words.{title};
+ghost use Rattle.transactions.specs.Words.{title};
 ghost use Rattle.command_params.specs.Params.{IsRead};
 ghost use Rattle.query_commands.specs.Visible.{channel_for};
 ghost use Rattle.query_commands.specs.Telling.{telling_more};
@@ -13,16 +13,16 @@ ghost use Rattle.query_commands.specs.Whois.{title_seen, user_line, user_told, w
 
 use crate::Query;
 use crate::names::{rank_of, room_of};
-use crate::telling::Telling;
+use crate::reply_builder::ReplyBuilder;
 use crate::visible::channel_for;
 use crate::who::real_of;
 use chronicle::SessionId;
 use command_params::ReadFault;
-use drafts::{Draft, title_of};
 use line_grammar::{LineParameters, Octets, OctetsList};
-use numerics::{Numeric, prefixed, split_names};
+use numerics::{Numeric, split_names, with_prefix};
 use roster::Roster;
 use std::alloc::{AllocError, Global};
+use transactions::{Transaction, title_of};
 
 /// The nickname that is asked for: of two parameters the second.
 fn nick_asked<'a>(params: &LineParameters<'a>) -> &'a [u8]
@@ -45,7 +45,7 @@ pub fn read_whois(alloc: Global, params: &LineParameters<'_>) -> Result<Query, R
     if nick.is_empty() {
         return Err(ReadFault::NoNicknameGiven);
     }
-    let nick = Octets::copied(alloc, nick)?;
+    let nick = Octets::copy_of(alloc, nick)?;
     Ok(Query::Whois { nick })
 }
 
@@ -64,7 +64,7 @@ fn push_title(
 {
     if let Some(listed) = channel_for(roster, session, channel.as_slice()) {
         let mark = rank_of(listed.state, user);
-        titles.push(prefixed(alloc, mark, listed.name.as_slice())?)?;
+        titles.push(with_prefix(alloc, mark, listed.name.as_slice())?)?;
     }
     Ok(())
 }
@@ -103,13 +103,17 @@ fn titles_of(
 }
 
 /// How many octets of channels a line has room for.
-fn channels_room(draft: &Draft<'_>, session: SessionId, nick: &Octets) -> Result<usize, AllocError>
+fn channels_room(
+    tx: &Transaction<'_>,
+    session: SessionId,
+    nick: &Octets,
+) -> Result<usize, AllocError>
     ensures { IfOk result
-        (λ n. n ≡ channels_room draft.now.settings draft.now.base session nick.now) }
+        (λ n. n ≡ channels_room tx.now.settings tx.now.base session nick.now) }
 {
-    let alloc = draft.alloc();
-    let to = title_of(alloc, draft.before().nick_of(session))?;
-    let server = draft.before().settings().server.as_slice();
+    let alloc = tx.alloc();
+    let to = title_of(alloc, tx.before().nick_of(session))?;
+    let server = tx.before().settings().server.as_slice();
     let nick = nick.clone()?;
     let channels = OctetsList::from_vec(Vec::new(alloc));
     let numeric = Numeric::WhoisChannels { nick, channels };
@@ -119,7 +123,7 @@ fn channels_room(draft: &Draft<'_>, session: SessionId, nick: &Octets) -> Result
 /// Adds a numeric for each line of channels.
 #[tactic(auto, using(crate::proofs::Told::more_more))]
 fn push_lines(
-    telling: &mut Telling<'_>,
+    telling: &mut ReplyBuilder<'_>,
     nick: &Octets,
     lines: Vec<OctetsList>,
 ) -> Result<(), AllocError>
@@ -135,18 +139,18 @@ fn push_lines(
 
 /// Adds the channels of a user that a session sees, in as few lines as their order allows.
 fn push_channels(
-    draft: &Draft<'_>,
-    telling: &mut Telling<'_>,
+    tx: &Transaction<'_>,
+    telling: &mut ReplyBuilder<'_>,
     session: SessionId,
     user: SessionId,
     nick: &Octets,
 ) -> Result<(), AllocError>
     ensures { OnOk result (telling.new ≡ telling_more telling.old
-        (channels_told draft.now.settings draft.now.base session user nick.now)) }
+        (channels_told tx.now.settings tx.now.base session user nick.now)) }
 {
-    let room = channels_room(draft, session, nick)?;
-    let titles = titles_of(draft.alloc(), draft.before(), session, user)?;
-    let lines = split_names(draft.alloc(), titles, room)?;
+    let room = channels_room(tx, session, nick)?;
+    let titles = titles_of(tx.alloc(), tx.before(), session, user)?;
+    let lines = split_names(tx.alloc(), titles, room)?;
     push_lines(telling, nick, lines)
 }
 
@@ -154,7 +158,7 @@ fn push_channels(
 fn push_user(
     alloc: Global,
     roster: &Roster,
-    telling: &mut Telling<'_>,
+    telling: &mut ReplyBuilder<'_>,
     user: SessionId,
     nick: &Octets,
 ) -> Result<(), AllocError>
@@ -162,7 +166,7 @@ fn push_user(
         (telling.new ≡ telling_more telling.old (user_line roster.now.facts user nick.now ∷ [])) }
 {
     let nick = nick.clone()?;
-    let host = Octets::copied(alloc, roster.host_of(user))?;
+    let host = Octets::copy_of(alloc, roster.host_of(user))?;
     let real = real_of(alloc, roster.real_of(user))?;
     let user = title_of(alloc, roster.user_of(user))?;
     telling.push(Numeric::WhoisUser {
@@ -175,7 +179,7 @@ fn push_user(
 
 /// Adds that a user is away, where it is.
 fn push_away(
-    telling: &mut Telling<'_>,
+    telling: &mut ReplyBuilder<'_>,
     nick: &Octets,
     away: Option<&Octets>,
 ) -> Result<(), AllocError>
@@ -191,7 +195,11 @@ fn push_away(
 }
 
 /// Adds which server a user is on.
-fn push_server(telling: &mut Telling<'_>, nick: &Octets, info: &Octets) -> Result<(), AllocError>
+fn push_server(
+    telling: &mut ReplyBuilder<'_>,
+    nick: &Octets,
+    info: &Octets,
+) -> Result<(), AllocError>
     ensures { OnOk result
         (telling.new ≡ telling_more telling.old (WhoisServer nick.now info.now ∷ [])) }
 {
@@ -201,7 +209,7 @@ fn push_server(telling: &mut Telling<'_>, nick: &Octets, info: &Octets) -> Resul
 }
 
 /// Adds that no more is told of a nickname.
-fn push_end(telling: &mut Telling<'_>, nick: &Octets) -> Result<(), AllocError>
+fn push_end(telling: &mut ReplyBuilder<'_>, nick: &Octets) -> Result<(), AllocError>
     ensures { OnOk result (telling.new ≡ telling_more telling.old (EndOfWhois nick.now ∷ [])) }
 {
     telling.push(Numeric::EndOfWhois(nick.clone()?))
@@ -210,19 +218,19 @@ fn push_end(telling: &mut Telling<'_>, nick: &Octets) -> Result<(), AllocError>
 /// Adds what a session is told of a user.
 #[tactic(auto, using(crate::proofs::Told::more_more))]
 fn push_found(
-    draft: &Draft<'_>,
-    telling: &mut Telling<'_>,
+    tx: &Transaction<'_>,
+    telling: &mut ReplyBuilder<'_>,
     session: SessionId,
     user: SessionId,
 ) -> Result<(), AllocError>
-    ensures { OnOk result (telling.new ≡ telling_more telling.old (user_told draft.now.settings
-        draft.now.base session user (title (nick draft.now.base user)))) }
+    ensures { OnOk result (telling.new ≡ telling_more telling.old (user_told tx.now.settings
+        tx.now.base session user (title (nick tx.now.base user)))) }
 {
-    let alloc = draft.alloc();
-    let roster = draft.before();
+    let alloc = tx.alloc();
+    let roster = tx.before();
     let nick = title_of(alloc, roster.nick_of(user))?;
     push_user(alloc, roster, telling, user, &nick)?;
-    push_channels(draft, telling, session, user, &nick)?;
+    push_channels(tx, telling, session, user, &nick)?;
     push_server(telling, &nick, &roster.settings().info)?;
     push_away(telling, &nick, roster.away_of(user))?;
     push_end(telling, &nick)
@@ -230,7 +238,7 @@ fn push_found(
 
 /// Adds what a session is told of a nickname that no user has.
 #[tactic(auto, using(crate::proofs::Told::more_more))]
-fn push_nobody(telling: &mut Telling<'_>, nick: &Octets) -> Result<(), AllocError>
+fn push_nobody(telling: &mut ReplyBuilder<'_>, nick: &Octets) -> Result<(), AllocError>
     ensures { OnOk result
         (telling.new ≡ telling_more telling.old (NoSuchNick nick.now ∷ EndOfWhois nick.now ∷ [])) }
 {
@@ -240,16 +248,16 @@ fn push_nobody(telling: &mut Telling<'_>, nick: &Octets) -> Result<(), AllocErro
 
 /// WHOIS: who has a nickname, with the channels that the session is let see.
 pub(crate) fn answer(
-    draft: &Draft<'_>,
-    telling: &mut Telling<'_>,
+    tx: &Transaction<'_>,
+    telling: &mut ReplyBuilder<'_>,
     session: SessionId,
     nick: &Octets,
 ) -> Result<(), AllocError>
     ensures { OnOk result (telling.new ≡ telling_more telling.old
-        (whois_asked draft.now.settings draft.now.base session nick.now)) }
+        (whois_asked tx.now.settings tx.now.base session nick.now)) }
 {
-    match draft.before().find(nick.as_slice()) {
-        Some(user) => push_found(draft, telling, session, user),
+    match tx.before().find(nick.as_slice()) {
+        Some(user) => push_found(tx, telling, session, user),
         None => push_nobody(telling, nick),
     }
 }

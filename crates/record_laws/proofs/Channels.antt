@@ -4,7 +4,7 @@ use Rattle.std.proofs.Common.{filter, slice_get, Option, Some, None, refl}
 use Rattle.std.specs.List.{list_any}
 use Rattle.casemapping.specs.Names.{channel_shape}
 use Rattle.channel_state.specs.declared.change.Change.TheVariants.{Joined, Left, Invited, TopicSet}
-use Rattle.channel_state.specs.State.{among, changed, made_by, without}
+use Rattle.channel_state.specs.State.{among, with_change, made_by, without}
 use Rattle.command_params.specs.declared.join_targets.JoinTarget.{JoinTarget}
 use Rattle.numerics.specs.declared.numeric.Numeric.TheVariants.{Away, ChanOPrivsNeeded, Inviting, NoSuchChannel}
 use Rattle.numerics.specs.declared.numeric.Numeric.TheVariants.{NoSuchNick, NotOnChannel, NoTopic, TooManyChannels}
@@ -15,29 +15,29 @@ use Rattle.registration.specs.declared.caps.Cap.TheVariants.{AwayNotify}
 use Rattle.registration.specs.declared.settings.Settings.{Settings}
 use Rattle.roster.specs.declared.deed.Deed.{Deed}
 use Rattle.roster.specs.declared.deed.Deed.TheVariants.{ChannelMade, Changed, InvisibleSet}
-use Rattle.roster.specs.LookBack.{account, after, away, channel_count, found, invisible, nick, real}
-use Rattle.drafts.specs.declared.denials.Denial.{Denial}
-use Rattle.drafts.specs.declared.effect.Effect.TheVariants.{Establish, Answer, Show}
-use Rattle.drafts.specs.Denials.{denied}
-use Rattle.drafts.specs.Effects.{deeds_of}
-use Rattle.drafts.specs.Hearers.{shown, takes}
-use Rattle.drafts.specs.Lines.{away_line, extended_join_line, join_line, prefix, title}
-use Rattle.drafts.specs.Replies.{tells, tells_all}
-use Rattle.drafts.specs.Seen.{Seen, seen}
+use Rattle.roster.specs.LookBack.{account, after, away, channel_count, user_named, invisible, nick, real}
+use Rattle.transactions.specs.declared.denials.Denial.{Denial}
+use Rattle.transactions.specs.declared.effect.Effect.TheVariants.{Establish, Answer, Show}
+use Rattle.transactions.specs.Denials.{numeric_for}
+use Rattle.transactions.specs.Effects.{deeds_of}
+use Rattle.transactions.specs.Hearers.{shows_to, takes}
+use Rattle.transactions.specs.Lines.{away_line, extended_join_line, join_line, prefix, title}
+use Rattle.transactions.specs.Replies.{tells, tells_all}
+use Rattle.transactions.specs.Seen.{Seen, seen}
 use Rattle.channel_commands.specs.Found.{channel_of, user_of}
 use Rattle.channel_commands.specs.Inviting.{away_told, invites, invites_found, invites_seen, invites_user}
-use Rattle.channel_commands.specs.Joining.{absence_shown, bar_of, entered, enters, enters_unless}
-use Rattle.channel_commands.specs.Joining.{introduced, join_shown, joins, joins_one, joins_seen, makes}
-use Rattle.channel_commands.specs.Joining.{takes_extended, takes_plain, welcomed}
+use Rattle.channel_commands.specs.Joining.{absence_shown, bar_of, arrives, enters, enters_unless}
+use Rattle.channel_commands.specs.Joining.{arrival_shown, join_shown, joins, joins_one, joins_seen, makes}
+use Rattle.channel_commands.specs.Joining.{takes_extended, takes_plain, arrival_told}
 use Rattle.channel_commands.specs.Leaving.{kick_text, kicks, kicks_each, kicks_found, kicks_one, kicks_seen}
 use Rattle.channel_commands.specs.Leaving.{kicks_user, parts, parts_one, parts_seen}
-use Rattle.departing.specs.Leaving.{leaves}
+use Rattle.channel_leaving.specs.Leaving.{leaves}
 use Rattle.channel_commands.specs.Lines.{invite_line, kick_line, part_line, topic_line}
 use Rattle.channel_commands.specs.Topics.{sets_topic, topic_of, topic_served, topic_shown}
 use Rattle.channel_commands.specs.Topics.{topic_text, topics, topics_seen}
 use Rattle.mode_commands.specs.declared.letters.ModeChange.{ModeChange}
-use Rattle.mode_commands.specs.declared.steps.Step.{Step}
-use Rattle.mode_commands.specs.declared.steps.Step.TheVariants as step
+use Rattle.mode_commands.specs.declared.steps.ModeStep.{ModeStep}
+use Rattle.mode_commands.specs.declared.steps.ModeStep.TheVariants as step
 use Rattle.mode_commands.specs.ChannelModes.{asks_bans, ban_numerics, channel_modes, does, does_changes}
 use Rattle.mode_commands.specs.ChannelModes.{refusal_numeric, shows_changes, takes_changes, tells_modes}
 use Rattle.mode_commands.specs.ChannelModes as modes_of
@@ -56,23 +56,23 @@ use Rattle.record_laws.proofs.Fits.{more, none, only, seen_once, some_shown, tol
 -- ---- JOIN
 
 arrival : (fs : List Deed) (s : ℕ) (from : List ℕ) (k : Seen) → IsEachOnce k.state.members
-    → Fit (introduced fs s from k)
-unfolding introduced
+    → Fit (arrival_shown fs s from k)
+unfolding arrival_shown
 arrival fs s from k once = joined (join_shown fs s from k) (absence_shown fs s from k (away fs s)) both
     (absence (away fs s))
   where
     members : (p : ℕ → Bool) → IsEachOnce (filter p k.state.members)
     members p = once-filter p k.state.members once
 
-    some : (p : ℕ → Bool) (l : Out) → is_batch l ≡ false → Fit (shown (filter p k.state.members) l)
+    some : (p : ℕ → Bool) (l : Out) → is_batch l ≡ false → Fit (shows_to (filter p k.state.members) l)
     some p l plain = some_shown (filter p k.state.members) l (members p) plain
 
     both : Fit (join_shown fs s from k)
     both =
         let plain = join_line from k.name in
         let extended = extended_join_line from k.name (account fs s) (real fs s) in
-        joined (shown (filter (takes_plain fs) k.state.members) plain)
-        (shown (filter (takes_extended fs) k.state.members) extended) (some (takes_plain fs) plain refl)
+        joined (shows_to (filter (takes_plain fs) k.state.members) plain)
+        (shows_to (filter (takes_extended fs) k.state.members) extended) (some (takes_plain fs) plain refl)
         (some (takes_extended fs) extended refl)
 
     absence : (text : Option (List ℕ)) → Fit (absence_shown fs s from k text)
@@ -83,29 +83,29 @@ arrival fs s from k once = joined (join_shown fs s from k) (absence_shown fs s f
         (once-without s takers (members (takes fs AwayNotify))) refl
 
 entry : (g : Settings) (fs0 fs : List Deed) (s : ℕ) (from : List ℕ) (k : Seen) → IsEachOnce k.state.members
-    → Fit (entered g fs0 fs s from k)
-unfolding entered
-entry g fs0 fs s from k once = joined (introduced fs0 s from k) (tells_all g fs s (welcomed g fs0 s k))
-    (arrival fs0 s from k once) (told_all g fs s (welcomed g fs0 s k))
+    → Fit (arrives g fs0 fs s from k)
+unfolding arrives
+entry g fs0 fs s from k once = joined (arrival_shown fs0 s from k) (tells_all g fs s (arrival_told g fs0 s k))
+    (arrival fs0 s from k once) (told_all g fs s (arrival_told g fs0 s k))
 
 making : (g : Settings) (fs0 fs : List Deed) (s : ℕ) (from c : List ℕ) → Fit (makes g fs0 fs s from c)
 making g fs0 fs s from c =
     let k : Seen = record { name = c; state = made_by s } in
-    more (Establish (ChannelMade s c)) (entered g fs0 (ChannelMade s c ∷ fs) s from k) refl
+    more (Establish (ChannelMade s c)) (arrives g fs0 (ChannelMade s c ∷ fs) s from k) refl
     (entry g fs0 (ChannelMade s c ∷ fs) s from k (distinct-one eq s))
 
 entering : (g : Settings) (fs0 fs : List Deed) (s : ℕ) (from : List ℕ) (k : Seen) → IsEachOnce k.state.members
     → Fit (enters g fs0 fs s from k)
 entering g fs0 fs s from k once =
-    let joined_now : Seen = record { name = k.name; state = changed (Joined s) k.state } in
+    let joined_now : Seen = record { name = k.name; state = with_change (Joined s) k.state } in
     let d = Changed k.name (Joined s) in
-    more (Establish d) (entered g fs0 (d ∷ fs) s from joined_now) refl
+    more (Establish d) (arrives g fs0 (d ∷ fs) s from joined_now) refl
     (entry g fs0 (d ∷ fs) s from joined_now (once_changed (Joined s) k.state once))
 
 unless_barred : (g : Settings) (fs0 fs : List Deed) (s : ℕ) (from : List ℕ) (k : Seen) (bar : Option Denial)
     → IsEachOnce k.state.members → Fit (enters_unless g fs0 fs s from k bar)
 unless_barred g fs0 fs s from k None once = entering g fs0 fs s from k once
-unless_barred g fs0 fs s from k (Some bar) once = told_only g fs s (denied bar k.name)
+unless_barred g fs0 fs s from k (Some bar) once = told_only g fs s (numeric_for bar k.name)
 
 joining_seen : (g : Settings) (fs0 fs : List Deed) (s : ℕ) (from : List ℕ) (n : ℕ) (t : JoinTarget)
     (o : Option Seen) → SeenOnce o → Fit (joins_seen g fs0 fs s from n t o)
@@ -263,12 +263,13 @@ topic g fs s c text = topic_seen g fs s c text (channel_of fs c) (found_once fs 
 
 -- ---- MODE
 
-doing : (g : Settings) (s : ℕ) (c : List ℕ) (fs : List Deed) (x : Step) → Fit (does g s c fs x)
+doing : (g : Settings) (s : ℕ) (c : List ℕ) (fs : List Deed) (x : ModeStep) → Fit (does g s c fs x)
 doing g s c fs step.Nothing = none
 doing g s c fs (step.Refused why) = told_only g fs s (refusal_numeric c why)
 doing g s c fs (step.Changes x shown) = only (Establish (Changed c x)) refl
 
-doing_each : (g : Settings) (s : ℕ) (c : List ℕ) (fs : List Deed) (xs : List Step) → Fit (modes_of.in_turn g s c fs xs)
+doing_each : (g : Settings) (s : ℕ) (c : List ℕ) (fs : List Deed) (xs : List ModeStep)
+    → Fit (modes_of.in_turn g s c fs xs)
 doing_each g s c fs [] = none
 doing_each g s c fs (x ∷ xs) = let later = after fs (deeds_of (does g s c fs x)) in
     joined (does g s c fs x) (modes_of.in_turn g s c later xs) (doing g s c fs x) (doing_each g s c later xs)
@@ -328,5 +329,5 @@ pub moding : (g : Settings) (fs : List Deed) (s : ℕ) (target : List ℕ) (chan
     → Fit (modes g fs s target changes)
 moding g fs s target changes =
     either (names_channel target) (of_channel g fs s target changes (seen fs target)) (of_user g fs s target changes
-    (found fs target)) (if_a_channel g fs s target changes (seen fs target) (seen_once fs target))
-    (if_a_user g fs s target changes (found fs target))
+    (user_named fs target)) (if_a_channel g fs s target changes (seen fs target) (seen_once fs target))
+    (if_a_user g fs s target changes (user_named fs target))

@@ -12,13 +12,13 @@ use Rattle.registration.specs.declared.settings.Settings.{Settings}
 use Rattle.roster.specs.declared.deed.Deed.{Deed}
 use Rattle.roster.specs.declared.deed.Deed.TheVariants.{Opened}
 use Rattle.roster.specs.LookBack.{after, has_member, name, nick, state}
-use Rattle.drafts.specs.declared.effect.Effect.{Effect}
-use Rattle.drafts.specs.declared.effect.Effect.TheVariants.{Establish, Answer, Show, Copy}
-use Rattle.drafts.specs.Effects.{deeds_of}
-use Rattle.drafts.specs.Hearers.{shown}
-use Rattle.drafts.specs.Lines.{title}
-use Rattle.drafts.specs.Replies.{tells, tells_all}
-use Rattle.drafts.specs.Seen.{Seen, seen}
+use Rattle.transactions.specs.declared.effect.Effect.{Effect}
+use Rattle.transactions.specs.declared.effect.Effect.TheVariants.{Establish, Answer, Show, Copy}
+use Rattle.transactions.specs.Effects.{deeds_of}
+use Rattle.transactions.specs.Hearers.{shows_to}
+use Rattle.transactions.specs.Lines.{title}
+use Rattle.transactions.specs.Replies.{tells, tells_all}
+use Rattle.transactions.specs.Seen.{Seen, seen}
 use Rattle.channel_commands.specs.Each.{each, each_counted}
 use Rattle.channel_commands.specs.Found.{channel_of}
 use Rattle.record_laws.specs.Laws.{IsEachOnce}
@@ -61,8 +61,8 @@ pub either : (b : Bool) (xs ys : List Effect) → Fit xs → Fit ys → Fit (if 
 either true xs ys f g = f
 either false xs ys f g = g
 
-pub some_shown : (hearers : List ℕ) (l : Out) → IsEachOnce hearers → is_batch l ≡ false → Fit (shown hearers l)
-unfolding shown
+pub some_shown : (hearers : List ℕ) (l : Out) → IsEachOnce hearers → is_batch l ≡ false → Fit (shows_to hearers l)
+unfolding shows_to
 some_shown hearers l once p = either (length hearers == 0) [] (Show hearers l ∷ []) none
     (only (Show hearers l) (once, p))
 

@@ -3,7 +3,7 @@ use Rattle.std.proofs.Common.{ℕ, true, false, List, []}
 use Rattle.std.proofs.Common.{◌∷◌, codes, Option, Some, None, refl}
 use Rattle.chronicle.specs.declared.why.Why.TheVariants.{Quit}
 use Rattle.numerics.specs.declared.numeric.Numeric.TheVariants as numeric
-use Rattle.numerics.specs.Numerics.{spaced}
+use Rattle.numerics.specs.Numerics.{names_text}
 use Rattle.registration.specs.declared.settings.Settings.{Settings}
 use Rattle.registration.specs.declared.enrol.CapAnswer.{CapAnswer}
 use Rattle.registration.specs.declared.enrol.CapAnswer.TheVariants.{Acknowledged, Refused}
@@ -20,14 +20,14 @@ use Rattle.session_commands.specs.declared.session.CapSubcommand.{CapSubcommand}
 use Rattle.session_commands.specs.declared.session.CapSubcommand.TheVariants.{Ls, List as ListCaps, Req, End}
 use Rattle.roster.specs.declared.deed.Deed.{Deed}
 use Rattle.roster.specs.declared.deed.Deed.TheVariants as deed
-use Rattle.roster.specs.LookBack.{after, caps, enrol, exchange, opened, registered}
-use Rattle.drafts.specs.declared.effect.Effect.TheVariants.{Establish, Answer}
-use Rattle.drafts.specs.Effects.{deeds_of}
-use Rattle.drafts.specs.Lines.{go_on_line, prefix}
-use Rattle.drafts.specs.Replies.{tells, tells_all}
+use Rattle.roster.specs.LookBack.{after, caps, enrol, exchange, opened_in, registered}
+use Rattle.transactions.specs.declared.effect.Effect.TheVariants.{Establish, Answer}
+use Rattle.transactions.specs.Effects.{deeds_of}
+use Rattle.transactions.specs.Lines.{go_on_line, prefix}
+use Rattle.transactions.specs.Replies.{tells, tells_all}
 use Rattle.session_commands.specs.Negotiation.{authenticates, cap_list, closes, lists, negotiates}
-use Rattle.session_commands.specs.Negotiation.{requested, sasl_answered, waits}
-use Rattle.session_commands.specs.Registration.{aborts, completed, enrolls, introduces, is_held, nick_answered, passes}
+use Rattle.session_commands.specs.Negotiation.{answers_req, sasl_answered, waits}
+use Rattle.session_commands.specs.Registration.{aborts, if_ready, enrolls, introduces, is_held, nick_answered, passes}
 use Rattle.session_commands.specs.Registration.{quits, registers, renames, shows_nick, takes_nick, user_answered}
 use Rattle.session_commands.specs.Welcome.{welcome_numerics}
 use Rattle.record_laws.specs.Laws.{IsEachOnce}
@@ -40,17 +40,17 @@ waiting : (fs : List Deed) (s : ℕ) → Fit (waits fs s)
 waiting fs s = let d = Establish (deed.HoldSet s true) in either (holds (enrol fs s)) (d ∷ []) [] (only d refl) none
 
 requesting : (g : Settings) (fs : List Deed) (s : ℕ) (words : List (List ℕ)) (a : CapAnswer)
-    → Fit (requested g fs s words a)
+    → Fit (answers_req g fs s words a)
 requesting g fs s words (Acknowledged new) = let d = Establish (deed.CapsSet s new) in
-    more (lists g fs s (codes "ACK") (spaced words)) (d ∷ []) refl (only d refl)
-requesting g fs s words Refused = only (lists g fs s (codes "NAK") (spaced words)) refl
+    more (lists g fs s (codes "ACK") (names_text words)) (d ∷ []) refl (only d refl)
+requesting g fs s words Refused = only (lists g fs s (codes "NAK") (names_text words)) refl
 
 pub negotiating : (g : Settings) (fs : List Deed) (s : ℕ) (sub : CapSubcommand) → Fit (negotiates g fs s sub)
 negotiating g fs s (Ls shows_values) = more (lists g fs s (codes "LS") (cap_list shows_values all_caps))
     (waits fs s) refl (waiting fs s)
 negotiating g fs s ListCaps = only (lists g fs s (codes "LIST") (cap_list false (list_of (caps fs s)))) refl
 negotiating g fs s (Req words) = let a = cap_answer (enrol fs s) words in
-    joined (requested g fs s words a) (waits fs s) (requesting g fs s words a) (waiting fs s)
+    joined (answers_req g fs s words a) (waits fs s) (requesting g fs s words a) (waiting fs s)
 negotiating g fs s End = only (Establish (deed.HoldSet s false)) refl
 
 -- ---- AUTHENTICATE
@@ -79,23 +79,23 @@ authenticating g fs s piece = answering g fs s (sasl_answer g.accounts (enrol fs
 
 -- ---- NICK, USER, PASS and QUIT
 
-shown_nick : (fs : List Deed) (s : ℕ) (n : List ℕ) → IsEachOnce (opened fs) → Fits (shows_nick fs s n)
+shown_nick : (fs : List Deed) (s : ℕ) (n : List ℕ) → IsEachOnce (opened_in fs) → Fits (shows_nick fs s n)
 shown_nick fs s n once = (once-with_self fs s once, refl)
 
-renaming : (fs : List Deed) (s : ℕ) (n : List ℕ) → IsEachOnce (opened fs) → Fit (renames fs s n)
+renaming : (fs : List Deed) (s : ℕ) (n : List ℕ) → IsEachOnce (opened_in fs) → Fit (renames fs s n)
 renaming fs s n once =
     let d = Establish (deed.NickSet s n) in
     either (registered fs s) (shows_nick fs s n ∷ d ∷ []) (d ∷ [])
     (more (shows_nick fs s n) (d ∷ []) (shown_nick fs s n once) (only d refl)) (only d refl)
 
-naming : (g : Settings) (fs : List Deed) (s : ℕ) (n : List ℕ) (a : NickAnswer) → IsEachOnce (opened fs)
+naming : (g : Settings) (fs : List Deed) (s : ℕ) (n : List ℕ) (a : NickAnswer) → IsEachOnce (opened_in fs)
     → Fit (nick_answered g fs s n a)
 naming g fs s n Erroneous once = told_only g fs s (numeric.ErroneousNickname n)
 naming g fs s n InUse once = told_only g fs s (numeric.NicknameInUse n)
 naming g fs s n Same once = none
 naming g fs s n Taken once = renaming fs s n once
 
-pub taking_nick : (g : Settings) (fs : List Deed) (s : ℕ) (n : List ℕ) → IsEachOnce (opened fs)
+pub taking_nick : (g : Settings) (fs : List Deed) (s : ℕ) (n : List ℕ) → IsEachOnce (opened_in fs)
     → Fit (takes_nick g fs s n)
 taking_nick g fs s n once = naming g fs s n (nick_answer (enrol fs s) n (is_held fs s n)) once
 
@@ -131,5 +131,5 @@ registering g fs s =
     let later = after fs (deeds_of es) in
     joined es (enrolls g later s) (aborting g fs s (exchange fs s)) (enrolling g later s)
 
-pub completing : (g : Settings) (fs : List Deed) (s : ℕ) → Fit (completed g fs s)
+pub completing : (g : Settings) (fs : List Deed) (s : ℕ) → Fit (if_ready g fs s)
 completing g fs s = either (is_ready (enrol fs s)) (registers g fs s) [] (registering g fs s) none

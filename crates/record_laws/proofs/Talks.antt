@@ -14,17 +14,17 @@ use Rattle.registration.specs.declared.settings.Settings.{Settings}
 use Rattle.registration.specs.Caps.{is_on}
 use Rattle.roster.specs.declared.deed.Deed.{Deed}
 use Rattle.roster.specs.declared.deed.Deed.TheVariants.{AwaySet}
-use Rattle.roster.specs.LookBack.{away, caps, found, name_of, nick, opened, sharers, state}
-use Rattle.drafts.specs.declared.effect.Effect.TheVariants.{Establish, Answer, Show, Copy}
-use Rattle.drafts.specs.Hearers.{shown, takes}
-use Rattle.drafts.specs.Lines.{away_line, prefix, title}
-use Rattle.drafts.specs.Replies.{tells}
+use Rattle.roster.specs.LookBack.{away, caps, user_named, name_of, nick, opened_in, sharers, state}
+use Rattle.transactions.specs.declared.effect.Effect.TheVariants.{Establish, Answer, Show, Copy}
+use Rattle.transactions.specs.Hearers.{shows_to, takes}
+use Rattle.transactions.specs.Lines.{away_line, prefix, title}
+use Rattle.transactions.specs.Replies.{tells}
 use Rattle.talk_commands.specs.declared.verb.Verb.{Verb}
 use Rattle.talk_commands.specs.declared.verb.Verb.TheVariants.{Privmsg, Notice, Tagmsg}
 use Rattle.talk_commands.specs.Lines.{Sent, sent_line, verb_text}
 use Rattle.talk_commands.specs.Talking.{answers, delivers, echoes, keeps, may_speak, names_channel, reaches, sends}
 use Rattle.talk_commands.specs.Talking.{shows, tells_away, to_channel, to_one, to_open, to_user}
-use Rattle.talk_commands.specs.Away.{away_answer, goes_away, is_same_text, kept, notified}
+use Rattle.talk_commands.specs.Away.{away_answer, goes_away, is_same_text, new_away, away_hearers}
 use Rattle.record_laws.specs.Laws.{IsEachOnce}
 use Rattle.roster.proofs.OnceLaws.{eq, distinct-none, distinct-one, members_once}
 use Rattle.record_laws.proofs.Once.{once-filter, once-sharers, once-without}
@@ -94,8 +94,8 @@ to_a_user g fs s b n (Some t) =
 to_a_target : (g : Settings) (fs : List Deed) (s : ℕ) (b : Sent) (target : List ℕ) → Fit (to_one g fs s b target)
 to_a_target g fs s b target =
     either (names_channel target) (to_channel g fs s b target (name_of fs target))
-    (to_user g fs s b target (found fs target)) (to_a_channel g fs s b target (name_of fs target))
-    (to_a_user g fs s b target (found fs target))
+    (to_user g fs s b target (user_named fs target)) (to_a_channel g fs s b target (name_of fs target))
+    (to_a_user g fs s b target (user_named fs target))
 
 pub sent : (g : Settings) (fs : List Deed) (s : ℕ) (b : Sent) (targets : List (List ℕ)) → Fit (sends g fs s b targets)
 sent g fs s b targets =
@@ -107,8 +107,8 @@ change_plain : (from : List ℕ) (text : Option (List ℕ)) → is_batch (away_l
 change_plain from None = refl
 change_plain from (Some text) = refl
 
-notified_once : (fs : List Deed) (s : ℕ) (text : Option (List ℕ)) → IsEachOnce (opened fs)
-    → IsEachOnce (notified fs s text)
+notified_once : (fs : List Deed) (s : ℕ) (text : Option (List ℕ)) → IsEachOnce (opened_in fs)
+    → IsEachOnce (away_hearers fs s text)
 notified_once fs s text once =
     elim (is_same_text (away fs s) text) as
     (λ b. IsEachOnce (cond b [] (filter (takes fs AwayNotify) (sharers fs s)))) [
@@ -116,12 +116,12 @@ notified_once fs s text once =
       | false ↦ once-filter (takes fs AwayNotify) (sharers fs s) (once-sharers fs s once)
     ]
 
-pub gone_away : (g : Settings) (fs : List Deed) (s : ℕ) (text : List ℕ) → IsEachOnce (opened fs)
+pub gone_away : (g : Settings) (fs : List Deed) (s : ℕ) (text : List ℕ) → IsEachOnce (opened_in fs)
     → Fit (goes_away g fs s text)
 gone_away g fs s text once =
-    let now = kept text in
+    let now = new_away text in
     let answer = tells g fs s (away_answer now) in
-    let news = shown (notified fs s now) (away_line (prefix fs s) now) in
+    let news = shows_to (away_hearers fs s now) (away_line (prefix fs s) now) in
     more (Establish (AwaySet s now)) (answer ∷ news) refl
-    (more answer news (told g fs s (away_answer now)) (some_shown (notified fs s now)
+    (more answer news (told g fs s (away_answer now)) (some_shown (away_hearers fs s now)
     (away_line (prefix fs s) now) (notified_once fs s now once) (change_plain (prefix fs s) now)))

@@ -5,11 +5,11 @@ use Rattle.chronicle.specs.declared.record.Kind.{Kind}
 use Rattle.chronicle.specs.declared.record.Kind.TheVariants as kind
 use Rattle.registration.specs.declared.settings.Settings.{Settings}
 use Rattle.roster.specs.declared.deed.Deed.{Deed}
-use Rattle.roster.specs.LookBack.{after, opened}
+use Rattle.roster.specs.LookBack.{after, opened_in}
 use Rattle.commands.specs.declared.asked.Asked.{Asked}
-use Rattle.drafts.specs.declared.effect.Effect.{Effect}
-use Rattle.drafts.specs.declared.effect.Effect.TheVariants.{Establish, Answer, Show, Copy}
-use Rattle.drafts.specs.Effects.{reply}
+use Rattle.transactions.specs.declared.effect.Effect.{Effect}
+use Rattle.transactions.specs.declared.effect.Effect.TheVariants.{Establish, Answer, Show, Copy}
+use Rattle.transactions.specs.Effects.{reply}
 use Rattle.deeds.specs.Rows.{of_asked}
 use Rattle.deeds.specs.Deeds.{deeds, effects}
 
@@ -29,17 +29,18 @@ AllShowOnce es = All ShowsOnce es
 
 -- of each kind of record, where sessions were opened once each
 abbrev pub HearersStandOnce : Type 0
-HearersStandOnce = (g : Settings) (fs : List Deed) (k : Kind) → IsEachOnce (opened fs) → AllShowOnce (effects g fs k)
+HearersStandOnce = (g : Settings) (fs : List Deed) (k : Kind) → IsEachOnce (opened_in fs)
+    → AllShowOnce (effects g fs k)
 
 abbrev pub opens : Kind → Bool
 opens (kind.Opened s host) = true
 opens k = false
 
 abbrev pub RecordsOpenNoOthers : Type 0
-RecordsOpenNoOthers = (g : Settings) (fs : List Deed) (k : Kind) → IsEachOnce (opened fs) → opens k ≡ false
-    → opened (after fs (deeds g fs k)) ≡ opened fs
+RecordsOpenNoOthers = (g : Settings) (fs : List Deed) (k : Kind) → IsEachOnce (opened_in fs) → opens k ≡ false
+    → opened_in (after fs (deeds g fs k)) ≡ opened_in fs
 
 -- the lines that answer a session's line
 abbrev pub NoLineOpensABatch : Type 0
-NoLineOpensABatch = (g : Settings) (fs : List Deed) (s : ℕ) (asked : Asked) → IsEachOnce (opened fs)
+NoLineOpensABatch = (g : Settings) (fs : List Deed) (s : ℕ) (asked : Asked) → IsEachOnce (opened_in fs)
     → All (λ l. l.command ≢ codes "BATCH") (reply s (of_asked g fs s asked))

@@ -9,7 +9,7 @@ use Rattle.register.specs.declared.claims.Known.{Known}
 use Rattle.register.specs.Rows.{new_row, with_piece}
 
 -- a register: which table of seats it is, and its rows
-pub record Shown (N : Type 0) : Type 0 where
+pub record RegisterView (N : Type 0) : Type 0 where
   pub table : TableId
   pub rows : List (Row N)
 
@@ -35,11 +35,11 @@ module _ {N : Type 0} where
   new_stub s n = record { session = s; outbox = Some n }
 
   -- a session was let in
-  abbrev pub with_session : Shown N → ℕ → N → Shown N
+  abbrev pub with_session : RegisterView N → ℕ → N → RegisterView N
   with_session m s n = record { table = m.table; rows = new_row s n ∷ m.rows }
 
   -- one more piece of a session is done
-  abbrev pub with_done : Shown N → ℕ → Piece → Shown N
+  abbrev pub with_done : RegisterView N → ℕ → Piece → RegisterView N
   with_done m s p = record { table = m.table; rows = with_piece m.rows s p }
 
   -- ---- what a seat shows, and nothing where it doesn't

@@ -30,9 +30,9 @@ pub struct Register<N> {
 impl<N> Model for Register<N> {
     ghost use Rattle.std.specs.Prelude.{◌≡◌, []};
     ghost use Rattle.register.specs.Rule.{keeper};
-    ghost use Rattle.register.specs.Shown.{Shown, rows_of};
+    ghost use Rattle.register.specs.Shown.{RegisterView, rows_of};
 
-    ghost Value = { Shown N };
+    ghost Value = { RegisterView N };
 
     ghost view = { λ r. record { table = r.seat.table_id; rows = rows_of r.seat.me.0 } };
 

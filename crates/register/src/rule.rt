@@ -97,14 +97,14 @@ impl<N> Play<(), Known<N>> for Clears {
 }
 
 /// The piece that was done, for the proof alone.
-pub(crate) trait Done {
+pub(crate) trait FinishesPiece {
     ghost use Rattle.std.specs.Prelude.{Option};
     ghost use Rattle.line_grammar.specs.declared.splitter.Piece.{Piece as Said};
 
     ghost piece: { Option Said };
 }
 
-impl Done for Brand {
+impl FinishesPiece for Brand {
     ghost use Rattle.std.specs.Prelude.{None};
 
     ghost piece = { None };
@@ -115,7 +115,7 @@ pub(crate) struct Advances<W> {
     piece: PhantomData<W>,
 }
 
-impl<N, W: Done> Split<Known<N>> for Advances<W> {
+impl<N, W: FinishesPiece> Split<Known<N>> for Advances<W> {
     ghost use Rattle.register.specs.Rule.{advancing, advanced};
 
     ghost left = { advancing W.piece };

@@ -6,7 +6,7 @@ ghost use Rattle.register.specs.Shown.{new_mark, rows_of, pieces_of, outbox_of, 
 
 use crate::claims::Known;
 use crate::rule::{
-    Admits, Advances, Blank, Clears, Done, GivesStub, LetsIn, Looks, OfSessions, TakesIn,
+    Admits, Advances, Blank, Clears, FinishesPiece, GivesStub, LetsIn, Looks, OfSessions, TakesIn,
 };
 use atomic_table::{Seat, Shared};
 use chronicle::SessionId;
@@ -51,7 +51,7 @@ pub(crate) fn blank<N>(sheet: &Sheet<N>, own: &mut Seat<(), Known<N>>) -> Seat<(
 }
 
 /// Takes a mark's seat in, and gives it out with one more piece.
-pub(crate) fn turn<W: Done, N>(
+pub(crate) fn turn<W: FinishesPiece, N>(
     sheet: &Sheet<N>,
     own: &mut Seat<(), Known<N>>,
     session: SessionId,

@@ -22,7 +22,7 @@ use Rattle.registration.specs.declared.enrol.SaslAnswer.TheVariants.{AlreadyLogg
 use Rattle.registration.specs.declared.enrol.SaslAnswer.TheVariants.{Aborted, TooLong, Waits, LoggedIn}
 use Rattle.registration.specs.declared.enrol.UserAnswer.TheVariants.{Accepted, AlreadyTold}
 use Rattle.registration.specs.Accounts.{accounts_in, logged_in}
-use Rattle.registration.specs.Caps.{after_request, all_caps, cap_name, cap_named, list_of, none_on, turned}
+use Rattle.registration.specs.Caps.{after_request, all_caps, cap_name, cap_named, list_of, none_on, caps_with}
 use Rattle.registration.specs.Enrol.{Enrolment, cap_answer, holds, is_ready, nick_answer, sasl_answer, user_answer}
 use Rattle.casemapping.specs.Fold.{is_same}
 use Rattle.registration.specs.Plain.{Credentials, credentials_of}
@@ -43,7 +43,7 @@ names_are_read : (cap_named (codes "echo-message") ≡ Some EchoMessage) × (cap
 names_are_read = (refl, refl, refl, refl)
 
 abbrev batch_and_sasl : Caps
-batch_and_sasl = turned (turned none_on Batch true) Sasl true
+batch_and_sasl = caps_with (caps_with none_on Batch true) Sasl true
 
 requests : (after_request none_on (codes "sasl" ∷ codes "batch" ∷ []) ≡ Some batch_and_sasl)
     × (after_request batch_and_sasl (codes "-sasl" ∷ codes "sasl" ∷ []) ≡ Some batch_and_sasl)

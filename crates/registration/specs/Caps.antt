@@ -43,8 +43,8 @@ abbrev pub is_on : Caps → Cap → Bool
 is_on caps cap = slice_index_or caps.on (place cap) false
 
 -- one capability turned on or off
-abbrev pub turned : Caps → Cap → Bool → Caps
-turned caps cap on = record { on = slice_set caps.on (place cap) on }
+abbrev pub caps_with : Caps → Cap → Bool → Caps
+caps_with caps cap on = record { on = slice_set caps.on (place cap) on }
 
 -- the capabilities that are on, sorted by name
 abbrev pub list_of : Caps → List Cap
@@ -61,7 +61,7 @@ turns_on (b ∷ bs) = cond (b == 45) false true
 
 abbrev pub turned_as : Caps → Option Cap → Bool → Caps
 turned_as caps None on = caps
-turned_as caps (Some cap) on = turned caps cap on
+turned_as caps (Some cap) on = caps_with caps cap on
 
 -- the capabilities after a word
 abbrev pub after_word : Caps → List ℕ → Caps

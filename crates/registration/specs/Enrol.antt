@@ -74,12 +74,12 @@ abbrev pub is_ready : Enrolment → Bool
 is_ready e = is_some e.nick && is_some e.user && not e.hold && not e.registered
 
 -- SASL 3.1, "The AUTHENTICATE Command": outside an exchange a word names a mechanism
-abbrev pub begun : List ℕ → SaslAnswer
-begun word = if is_same word (codes "PLAIN") then Opened else UnknownMechanism
+abbrev pub sasl_start : List ℕ → SaslAnswer
+sasl_start word = if is_same word (codes "PLAIN") then Opened else UnknownMechanism
 
 -- the octets that a piece adds: 43 is `+`, which stands for none
-abbrev pub added : List ℕ → List ℕ
-added piece = if bytes_eq piece (43 ∷ []) then [] else piece
+abbrev pub sasl_octets : List ℕ → List ℕ
+sasl_octets piece = if bytes_eq piece (43 ∷ []) then [] else piece
 
 -- at most 400 octets a piece, and 1,200 (this project's own choice) in all
 abbrev pub is_too_long : List ℕ → List ℕ → Bool
@@ -102,9 +102,9 @@ gone_on accounts so_far octets =
 
 -- 42 is `*`, which ends an exchange
 abbrev pub sasl_step : List Account → Option (List ℕ) → List ℕ → SaslAnswer
-sasl_step accounts None piece = begun piece
+sasl_step accounts None piece = sasl_start piece
 sasl_step accounts (Some so_far) piece = if bytes_eq piece (42 ∷ []) then Aborted
-    else gone_on accounts so_far (added piece)
+    else gone_on accounts so_far (sasl_octets piece)
 
 -- whether a text is kept from then on: what was sent, or by which account the session is logged in
 abbrev pub keeps_text : SaslAnswer → Bool

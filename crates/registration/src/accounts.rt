@@ -119,8 +119,8 @@ fn read_account(alloc: Global, known: &[Account], line: &[u8]) -> Result<Account
     if is_known(known, name) {
         return Err(AccountFault::Twice);
     }
-    let name = Octets::copied(alloc, name)?;
-    let salt = Octets::copied(alloc, salt)?;
+    let name = Octets::copy_of(alloc, name)?;
+    let salt = Octets::copy_of(alloc, salt)?;
     Ok(Account { name, salt, digest })
 }
 
@@ -228,7 +228,7 @@ impl Accounts {
         // Memory is wanting only where the password is right.
         ensures memory { IsErr result → IsSome (logged_in self.now user.now password.now) }
     {
-        let Some(account) = self.named(user) else {
+        let Some(account) = self.find_by_name(user) else {
             return Ok(None);
         };
         let digest = digest_of(account.salt.as_slice(), password);
@@ -239,7 +239,7 @@ impl Accounts {
     }
 
     /// The account of a name, in either case.
-    fn named(&self, user: &[u8]) -> Option<&Account>
+    fn find_by_name(&self, user: &[u8]) -> Option<&Account>
         ensures { option_copied result ≡ find (λ account. is_same account.name user.now) self.now }
     {
         self.accounts

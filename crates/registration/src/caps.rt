@@ -1,7 +1,7 @@
 //! Capabilities (IRCv3 Capability Negotiation).
 ghost use Rattle.std.specs.Prelude.{◌≡◌, IfOk, true, false, cond, Some, None};
 ghost use Rattle.registration.specs.Caps.{EachCapIsKnown, after_request, after_word, all_caps, cap_name};
-ghost use Rattle.registration.specs.Caps.{cap_named, is_known, is_on, list_of, none_on, turned};
+ghost use Rattle.registration.specs.Caps.{cap_named, is_known, is_on, list_of, none_on, caps_with};
 
 use line_grammar::Octets;
 use std::alloc::{AllocError, Global};
@@ -72,7 +72,7 @@ impl Cap {
     }
 
     /// The capability of a name. `None` where it is unknown.
-    pub fn named(name: &[u8]) -> Option<Cap>
+    pub fn from_name(name: &[u8]) -> Option<Cap>
         ensures { result ≡ cap_named name.now }
     {
         ALL.iter().copied().find(|known| name == known.name())
@@ -102,20 +102,20 @@ impl Caps {
 
     /// These, with one turned on.
     pub fn with(self, cap: Cap) -> Caps
-        ensures { result ≡ turned self cap true }
+        ensures { result ≡ caps_with self cap true }
     {
-        self.turned(cap, true)
+        self.set_to(cap, true)
     }
 
     /// These, with one turned off.
     pub fn without(self, cap: Cap) -> Caps
-        ensures { result ≡ turned self cap false }
+        ensures { result ≡ caps_with self cap false }
     {
-        self.turned(cap, false)
+        self.set_to(cap, false)
     }
 
-    fn turned(self, cap: Cap, on: bool) -> Caps
-        ensures { result ≡ turned self cap on }
+    fn set_to(self, cap: Cap, on: bool) -> Caps
+        ensures { result ≡ caps_with self cap on }
     {
         let mut caps = self;
         caps.on[cap as usize] = on;
@@ -138,8 +138,8 @@ impl Caps {
         ensures { result ≡ cond (is_known word.now) (Some (after_word self word.now)) None }
     {
         match word {
-            [b'-', name @ ..] => Some(self.without(Cap::named(name)?)),
-            name => Some(self.with(Cap::named(name)?)),
+            [b'-', name @ ..] => Some(self.without(Cap::from_name(name)?)),
+            name => Some(self.with(Cap::from_name(name)?)),
         }
     }
 }
@@ -147,7 +147,7 @@ impl Caps {
 /// The capabilities after a request (`CAP REQ`), whose words count one after the other: each turns a
 /// capability on, or off where it begins with `-`. `None` where one is unknown, which refuses them all.
 #[tactic(auto, unfolding(crate::specs::Caps::after_request))]
-pub fn requested(caps: Caps, words: &[Octets]) -> Option<Caps>
+pub fn after_request(caps: Caps, words: &[Octets]) -> Option<Caps>
     ensures { result ≡ after_request caps words.now }
 {
     let mut after = caps;

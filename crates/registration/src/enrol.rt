@@ -1,12 +1,12 @@
 //! What is known of a session while it registers, and what its commands are answered by that alone.
 ghost use Rattle.std.specs.Prelude.{◌≡◌, ◌+◌, ◌≤◌, ◌++◌, length, take, true, option_copied, IfOk, IsErr};
-ghost use Rattle.registration.specs.Enrol.{account_by, added, begun, cap_answer, ended_by, enrolment};
+ghost use Rattle.registration.specs.Enrol.{account_by, sasl_octets, sasl_start, cap_answer, ended_by, enrolment};
 ghost use Rattle.registration.specs.Enrol.{gone_on, holds, is_own, is_ready, is_too_long, keeps_text};
 ghost use Rattle.registration.specs.Enrol.{nick_answer, sasl_answer, user_answer};
 ghost use Rattle.registration.specs.Plain.{credentials_of};
 
 use crate::sasl::{EXCHANGELEN, account_by};
-use crate::{Accounts, Cap, Caps, requested};
+use crate::{Accounts, Cap, Caps, after_request};
 use casemapping::{is_nick, is_same};
 use line_grammar::Octets;
 use std::alloc::{AllocError, Global};
@@ -125,7 +125,7 @@ impl Enrol<'_> {
     pub fn cap(&self, words: &[Octets]) -> CapAnswer
         ensures { result ≡ cap_answer (enrolment self.now) words.now }
     {
-        match requested(self.caps, words) {
+        match after_request(self.caps, words) {
             Some(caps) => CapAnswer::Acknowledged { caps },
             None => CapAnswer::Refused,
         }
@@ -162,7 +162,7 @@ impl Enrol<'_> {
         match self.exchange {
             None => Ok(begin(piece)),
             Some(_) if piece == b"*".as_slice() => Ok(SaslAnswer::Aborted),
-            Some(so_far) => go_on(alloc, accounts, so_far.as_slice(), added(piece)),
+            Some(so_far) => go_on(alloc, accounts, so_far.as_slice(), octets_in(piece)),
         }
     }
 
@@ -176,7 +176,7 @@ impl Enrol<'_> {
 
 /// Outside an exchange a word names a mechanism.
 fn begin(word: &[u8]) -> SaslAnswer
-    ensures { result ≡ begun word.now }
+    ensures { result ≡ sasl_start word.now }
 {
     if is_same(word, b"PLAIN") {
         SaslAnswer::Opened
@@ -186,8 +186,8 @@ fn begin(word: &[u8]) -> SaslAnswer
 }
 
 /// The octets that a piece adds.
-fn added(piece: &[u8]) -> &[u8]
-    ensures { result.now ≡ added piece.now }
+fn octets_in(piece: &[u8]) -> &[u8]
+    ensures { result.now ≡ sasl_octets piece.now }
 {
     if piece == b"+".as_slice() { &[] } else { piece }
 }
@@ -198,10 +198,10 @@ fn is_too_long(so_far: &[u8], octets: &[u8]) -> bool
     octets.len() > PIECELEN || so_far.len() + octets.len() > EXCHANGELEN
 }
 
-fn joined(alloc: Global, so_far: &[u8], octets: &[u8]) -> Result<Octets, AllocError>
+fn concat(alloc: Global, so_far: &[u8], octets: &[u8]) -> Result<Octets, AllocError>
     ensures { IfOk result (λ whole. whole ≡ so_far.now ++ octets.now) }
 {
-    let mut whole = Octets::copied(alloc, so_far)?;
+    let mut whole = Octets::copy_of(alloc, so_far)?;
     whole.extend_from_slice(octets)?;
     Ok(whole)
 }
@@ -245,7 +245,7 @@ fn go_on(
         return Ok(SaslAnswer::TooLong);
     }
     if octets.len() == PIECELEN {
-        let exchange = joined(alloc, so_far, octets)?;
+        let exchange = concat(alloc, so_far, octets)?;
         return Ok(SaslAnswer::Waits { exchange });
     }
     let mut payload = [0; EXCHANGELEN];

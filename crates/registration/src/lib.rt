@@ -10,7 +10,7 @@ mod sasl;
 mod settings;
 
 pub use accounts::{Account, AccountFault, Accounts, accounts_are_named};
-pub use caps::{Cap, Caps, each_cap_is_known, requested};
+pub use caps::{Cap, Caps, after_request, each_cap_is_known};
 pub use enrol::{CapAnswer, Enrol, NickAnswer, SaslAnswer, UserAnswer};
 pub use sasl::told_is_spelled;
 pub use settings::{MAX_SESSIONS, Settings, is_well_set};

@@ -4,10 +4,10 @@ use Rattle.std.proofs.Common.{length, slice_get, Option, Some, None, refl, sym, 
 use Rattle.std.specs.List.{list_any}
 use Rattle.std.specs.Option.{option_map, option_map_or}
 use Rattle.roster.specs.declared.tables.Channel.{Channel}
-use Rattle.channel_state.specs.Held.{Held}
+use Rattle.channel_state.specs.Held.{ChannelView}
 use Rattle.casemapping.specs.Fold.{is_same}
 use Rattle.channel_state.specs.State.{State, is_some_one, nothing}
-use Rattle.roster.specs.Tables.{channel_of, state_in, names_of, with_held, is_populated, populated}
+use Rattle.roster.specs.Tables.{channel_of, state_in, names_of, with_held, is_populated, with_someone}
 use Rattle.roster.specs.Stands.{AreApart, AreHeld}
 use Rattle.roster.proofs.Bools.{either, or-none}
 use Rattle.casemapping.proofs.SameNames.{is_same-refl}
@@ -50,7 +50,7 @@ pub names_of-push : (ks : List Channel) (k : Channel) → names_of (ks ++ k ∷ 
 names_of-push [] k = refl
 names_of-push (x ∷ ks) k = ap (λ ns. x.name ∷ ns) (names_of-push ks k)
 
-pub names_of-with : (ks : List Channel) (n : List ℕ) (m : Held) → names_of (with_held ks n m) ≡ names_of ks
+pub names_of-with : (ks : List Channel) (n : List ℕ) (m : ChannelView) → names_of (with_held ks n m) ≡ names_of ks
 names_of-with [] n m = refl
 names_of-with (k ∷ ks) n m = elim (is_same k.name n) as (λ b. names_of
     (cond b (record { name = k.name; held = m } ∷ ks) (k ∷ with_held ks n m)) ≡ k.name ∷ names_of ks) [
@@ -60,13 +60,13 @@ names_of-with (k ∷ ks) n m = elim (is_same k.name n) as (λ b. names_of
 
 populated_names : (full ks : List Channel) (there : List ℕ → Bool)
     → ((c : List ℕ) → is_some_one (state_in full c).members ≡ there c) → Owned full ks
-    → names_of (populated ks) ≡ filter there (names_of ks)
+    → names_of (with_someone ks) ≡ filter there (names_of ks)
 populated_names full [] there e o = refl
 populated_names full (k ∷ ks) there e o =
     let ih = populated_names full ks there e o.1 in
     let here : there k.name ≡ is_populated k = sym (e k.name) ∙ ap
     (λ (st : State). is_some_one st.members) (own_members full k o.0) in
-    elim (is_populated k) as (λ b. names_of (cond b (k ∷ populated ks) (populated ks))
+    elim (is_populated k) as (λ b. names_of (cond b (k ∷ with_someone ks) (with_someone ks))
     ≡ cond b (k.name ∷ filter there (names_of ks)) (filter there (names_of ks))) [
       | true ↦ ap (λ ns. k.name ∷ ns) ih
       | false ↦ ih
@@ -75,7 +75,7 @@ populated_names full (k ∷ ks) there e o =
 
 -- the names of those that have a member
 pub names_of-populated : (ks : List Channel) (there : List ℕ → Bool) → AreApart ks
-    → ((c : List ℕ) → is_some_one (state_in ks c).members ≡ there c) → names_of (populated ks)
+    → ((c : List ℕ) → is_some_one (state_in ks c).members ≡ there c) → names_of (with_someone ks)
     ≡ filter there (names_of ks)
 names_of-populated ks there a e = populated_names ks ks there e (owned ks a)
 
@@ -95,7 +95,7 @@ pub held-push : (ks : List Channel) (k : Channel) → AreHeld ks → is_populate
 held-push [] k h e = (e, tt)
 held-push (x ∷ ks) k h e = (h.0, held-push ks k h.1 e)
 
-pub held-with : (ks : List Channel) (n : List ℕ) (m : Held) → AreHeld ks → is_some_one m.state.members ≡ true
+pub held-with : (ks : List Channel) (n : List ℕ) (m : ChannelView) → AreHeld ks → is_some_one m.state.members ≡ true
     → AreHeld (with_held ks n m)
 held-with [] n m h e = tt
 held-with (k ∷ ks) n m h e = elim (is_same k.name n) as
@@ -104,7 +104,7 @@ held-with (k ∷ ks) n m h e = elim (is_same k.name n) as
       | false ↦ (h.0, held-with ks n m h.1 e)
     ]
 
-pub held-populated : (ks : List Channel) → AreHeld (populated ks)
+pub held-populated : (ks : List Channel) → AreHeld (with_someone ks)
 held-populated [] = tt
 held-populated (k ∷ ks) =
     elim (either (is_populated k)) [

@@ -7,8 +7,8 @@ use Rattle.roster.specs.declared.deed.Deed.TheVariants.{ChannelMade, Changed, Go
 use Rattle.roster.specs.declared.tables.Channel.{Channel}
 use Rattle.casemapping.specs.Fold.{is_same}
 use Rattle.channel_state.specs.declared.change.Change.{Change}
-use Rattle.channel_state.specs.State.{State, is_some_one, nothing, made_by, changed, lasting}
-use Rattle.channel_state.specs.Held.{Held}
+use Rattle.channel_state.specs.State.{State, is_some_one, nothing, made_by, with_change, or_nothing}
+use Rattle.channel_state.specs.Held.{ChannelView}
 use Rattle.roster.specs.LookBack.{state, members, has_member, name, name_of}
 use Rattle.roster.specs.Tables.{channel_of, state_in, name_in, names_of, Reholds, Changes, Makes, is_tame}
 use Rattle.roster.specs.Stands.{AreApart, AreHeld, HoldChannels}
@@ -42,11 +42,11 @@ found_state o = option_map_or (λ (k : Channel). k.held.state) o nothing
 abbrev pub name_at : Option Channel → Option (List ℕ)
 name_at o = option_map (λ (k : Channel). k.name) o
 
-pub name_reheld : (o : Option Channel) (m : Held) → name_at (option_map (reheld m) o) ≡ name_at o
+pub name_reheld : (o : Option Channel) (m : ChannelView) → name_at (option_map (reheld m) o) ≡ name_at o
 name_reheld None m = refl
 name_reheld (Some k) m = refl
 
-state_reheld : (o : Option Channel) (m : Held) → is_some (name_at o) ≡ true
+state_reheld : (o : Option Channel) (m : ChannelView) → is_some (name_at o) ≡ true
     → found_state (option_map (reheld m) o) ≡ m.state
 state_reheld None m e = absurd (let f : false ≡ true = e in cc)
 state_reheld (Some k) m e = refl
@@ -60,7 +60,7 @@ kept_name None = refl
 kept_name (Some k) = elim (is_some_one k.held.state.members) as
     (λ b. name_at (cond b (Some k) None) ≡ cond b (Some k.name) None) [ true ↦ refl | false ↦ refl ]
 
-pub kept_state : (o : Option Channel) → found_state (kept o) ≡ lasting (found_state o)
+pub kept_state : (o : Option Channel) → found_state (kept o) ≡ or_nothing (found_state o)
 kept_state None = refl
 kept_state (Some k) = elim (is_some_one k.held.state.members) as
     (λ b. found_state (cond b (Some k) None) ≡ cond b k.held.state nothing) [ true ↦ refl | false ↦ refl ]
@@ -83,7 +83,7 @@ module _ (ks : List Channel) (fs : List Deed) (i : HoldChannels ks fs) where
   -- ---- a channel changes
 
   module _ (mid : List Channel) (n : List ℕ) (x : Change) (there : has_member fs n ≡ true)
-      (r : Reholds ks mid n (changed x (state_in ks n)) 1) where
+      (r : Reholds ks mid n (with_change x (state_in ks n)) 1) where
     here : (c : List ℕ) → is_same n c ≡ true → has_member fs c ≡ true
     here c e = ap (λ (st : State). is_some_one st.members) (sym (state-same fs n c e)) ∙ there
 
@@ -94,27 +94,28 @@ module _ (ks : List Channel) (fs : List Deed) (i : HoldChannels ks fs) where
         (λ b. name_at (cond b (option_map (reheld r.held) (channel_of ks c)) (channel_of ks c))
         ≡ name_at (channel_of ks c)) [ true ↦ name_reheld (channel_of ks c) r.held | false ↦ refl ]
 
-    state_now : (c : List ℕ) → state_in mid c ≡ cond (is_same n c) (changed x (state fs c)) (state fs c)
+    state_now : (c : List ℕ) → state_in mid c ≡ cond (is_same n c) (with_change x (state fs c)) (state fs c)
     state_now c =
         ap (λ (xs : List Channel). state_in xs c) r.changed ∙ ap found_state (channel_of-with ks n c r.held)
         ∙ elim (either (is_same n c)) [
           | inl same ↦
               ap (λ b. found_state (cond b (option_map (reheld r.held) (channel_of ks c)) (channel_of ks c))) same
               ∙ state_reheld (channel_of ks c) r.held (found c (here c same)) ∙ r.state
-              ∙ ap (changed x) (i.states n ∙ state-same fs n c same)
-              ∙ sym (ap (λ b. cond b (changed x (state fs c)) (state fs c)) same)
+              ∙ ap (with_change x) (i.states n ∙ state-same fs n c same)
+              ∙ sym (ap (λ b. cond b (with_change x (state fs c)) (state fs c)) same)
           | inr other ↦
               ap (λ b. found_state (cond b (option_map (reheld r.held) (channel_of ks c)) (channel_of ks c))) other
-              ∙ i.states c ∙ sym (ap (λ b. cond b (changed x (state fs c)) (state fs c)) other)
+              ∙ i.states c ∙ sym (ap (λ b. cond b (with_change x (state fs c)) (state fs c)) other)
         ]
 
-    lasting_by : (b : Bool) (new old : State) → lasting old ≡ old → lasting (cond b new old) ≡ cond b (lasting new) old
+    lasting_by : (b : Bool) (new old : State) → or_nothing old ≡ old → or_nothing (cond b new old)
+        ≡ cond b (or_nothing new) old
     lasting_by true new old e = refl
     lasting_by false new old e = e
 
     -- the channel after it, where it ends with its last member
-    reshaped_now : (c : List ℕ) → lasting (state_in mid c) ≡ state (Changed n x ∷ fs) c
-    reshaped_now c = ap lasting (state_now c) ∙ lasting_by (is_same n c) (changed x (state fs c)) (state fs c)
+    reshaped_now : (c : List ℕ) → or_nothing (state_in mid c) ≡ state (Changed n x ∷ fs) c
+    reshaped_now c = ap or_nothing (state_now c) ∙ lasting_by (is_same n c) (with_change x (state fs c)) (state fs c)
         (state-lasts fs c)
 
     members_now : (c : List ℕ) → (state_in mid c).members ≡ members (Changed n x ∷ fs) c
@@ -124,7 +125,7 @@ module _ (ks : List Channel) (fs : List Deed) (i : HoldChannels ks fs) where
     had c e = elim (either (is_same n c)) [
       | inl same ↦ here c same
       | inr other ↦ sym
-          (ap (λ b. is_some_one (cond b (lasting (changed x (state fs c))) (state fs c)).members) other) ∙ e
+          (ap (λ b. is_some_one (cond b (or_nothing (with_change x (state fs c))) (state fs c)).members) other) ∙ e
     ]
 
     apart_mid : AreApart mid

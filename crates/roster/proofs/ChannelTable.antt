@@ -8,8 +8,8 @@ use Rattle.casemapping.specs.Fold.{is_same}
 use Rattle.casemapping.proofs.SameNames.{is_same-left, is_same-right, is_same-sym}
 use Rattle.roster.specs.declared.deed.Deed.{Deed}
 use Rattle.roster.specs.declared.tables.Channel.{Channel}
-use Rattle.channel_state.specs.Held.{Held}
-use Rattle.roster.specs.Tables.{channel_of, with_held, is_populated, populated}
+use Rattle.channel_state.specs.Held.{ChannelView}
+use Rattle.roster.specs.Tables.{channel_of, with_held, is_populated, with_someone}
 use Rattle.roster.specs.Stands.{AreApart, HaveSeats}
 use Rattle.roster.proofs.Bools.{either, or-none, or-false}
 
@@ -21,14 +21,14 @@ channel_of-same (k ∷ ks) c d e = ap (λ b. cond b (Some k) (channel_of ks c)) 
 
 -- ---- other members
 
-abbrev pub reheld : Held → Channel → Channel
+abbrev pub reheld : ChannelView → Channel → Channel
 reheld m k = record { name = k.name; held = m }
 
 -- a name is no other's
 apart_from : (a n c : List ℕ) → is_same a n ≡ false → is_same a c ≡ true → is_same n c ≡ false
 apart_from a n c miss hit = is_same-sym n c ∙ sym (is_same-left a c n hit) ∙ miss
 
-pub channel_of-with : (ks : List Channel) (n c : List ℕ) (m : Held) → channel_of (with_held ks n m) c
+pub channel_of-with : (ks : List Channel) (n c : List ℕ) (m : ChannelView) → channel_of (with_held ks n m) c
     ≡ cond (is_same n c) (option_map (reheld m) (channel_of ks c)) (channel_of ks c)
 channel_of-with [] n c m = elim (is_same n c) as
     (λ b. ◌≡◌ {A = Option Channel} None (cond b None None)) [ true ↦ refl | false ↦ refl ]
@@ -80,7 +80,7 @@ unfound (k ∷ ks) a c e s =
     let miss : is_same k.name c ≡ false = is_same-sym k.name c ∙ sym (is_same-left a c k.name s) ∙ parts.0 in
     ap (λ b. cond b (Some k) (channel_of ks c)) miss ∙ unfound ks a c parts.1 s
 
-named-with : (ks : List Channel) (a n : List ℕ) (m : Held) → none_named a (with_held ks n m) ≡ none_named a ks
+named-with : (ks : List Channel) (a n : List ℕ) (m : ChannelView) → none_named a (with_held ks n m) ≡ none_named a ks
 named-with [] a n m = refl
 named-with (k ∷ ks) a n m = elim (is_same k.name n) as
     (λ b. none_named a (cond b (reheld m k ∷ ks) (k ∷ with_held ks n m)) ≡ none_named a (k ∷ ks)) [
@@ -88,7 +88,7 @@ named-with (k ∷ ks) a n m = elim (is_same k.name n) as
       | false ↦ ap (λ b. is_same a k.name || b) (named-with ks a n m)
     ]
 
-pub apart-with : (ks : List Channel) (n : List ℕ) (m : Held) → AreApart ks → AreApart (with_held ks n m)
+pub apart-with : (ks : List Channel) (n : List ℕ) (m : ChannelView) → AreApart ks → AreApart (with_held ks n m)
 apart-with [] n m a = tt
 apart-with (k ∷ ks) n m a = elim (is_same k.name n) as
     (λ b. AreApart (cond b (reheld m k ∷ ks) (k ∷ with_held ks n m))) [
@@ -117,11 +117,11 @@ none-filter p f (x ∷ xs) e =
     elim (f x) as (λ b. list_any p (cond b (x ∷ filter f xs) (filter f xs))
     ≡ false) [ true ↦ ap (λ b. b || list_any p (filter f xs)) parts.0 ∙ ih | false ↦ ih ]
 
-pub apart-populated : (ks : List Channel) → AreApart ks → AreApart (populated ks)
+pub apart-populated : (ks : List Channel) → AreApart ks → AreApart (with_someone ks)
 apart-populated [] a = tt
 apart-populated (k ∷ ks) a =
     let ih = apart-populated ks a.1 in
-    elim (is_populated k) as (λ b. AreApart (cond b (k ∷ populated ks) (populated ks))) [
+    elim (is_populated k) as (λ b. AreApart (cond b (k ∷ with_someone ks) (with_someone ks))) [
       | true ↦
           (none-filter (λ (l : Channel). is_same k.name l.name) is_populated ks a.0, ih)
       | false ↦ ih
@@ -131,30 +131,30 @@ abbrev pub kept : Option Channel → Option Channel
 kept None = None
 kept (Some k) = cond (is_populated k) (Some k) None
 
-pub channel_of-populated : (ks : List Channel) (c : List ℕ) → AreApart ks → channel_of (populated ks) c
+pub channel_of-populated : (ks : List Channel) (c : List ℕ) → AreApart ks → channel_of (with_someone ks) c
     ≡ kept (channel_of ks c)
 channel_of-populated [] c a = refl
 channel_of-populated (k ∷ ks) c a =
     let ih = channel_of-populated ks c a.1 in
     elim (either (is_same k.name c)) [
       | inl it ↦
-          let none : channel_of (populated ks) c ≡ None = ih ∙ ap kept (unfound ks k.name c a.0 it) in
-          elim (is_populated k) as (λ b. channel_of (cond b (k ∷ populated ks) (populated ks)) c
+          let none : channel_of (with_someone ks) c ≡ None = ih ∙ ap kept (unfound ks k.name c a.0 it) in
+          elim (is_populated k) as (λ b. channel_of (cond b (k ∷ with_someone ks) (with_someone ks)) c
           ≡ cond b (Some k) None) [ true ↦ rw it refl | false ↦ none ]
           ∙ sym (ap (λ b. kept (cond b (Some k) (channel_of ks c))) it)
       | inr miss ↦
-          elim (is_populated k) as (λ b. channel_of (cond b (k ∷ populated ks) (populated ks)) c
-          ≡ channel_of (populated ks) c) [
-            | true ↦ ap (λ b. cond b (Some k) (channel_of (populated ks) c)) miss
+          elim (is_populated k) as (λ b. channel_of (cond b (k ∷ with_someone ks) (with_someone ks)) c
+          ≡ channel_of (with_someone ks) c) [
+            | true ↦ ap (λ b. cond b (Some k) (channel_of (with_someone ks) c)) miss
             | false ↦ refl
           ]
           ∙ ih ∙ sym (ap (λ b. kept (cond b (Some k) (channel_of ks c))) miss)
     ]
 
-pub seats-populated : (ds : List Deed) (ks : List Channel) → HaveSeats ds ks → HaveSeats ds (populated ks)
+pub seats-populated : (ds : List Deed) (ks : List Channel) → HaveSeats ds ks → HaveSeats ds (with_someone ks)
 seats-populated ds [] h = tt
 seats-populated ds (k ∷ ks) h = elim (is_populated k) as
-    (λ b. HaveSeats ds (cond b (k ∷ populated ks) (populated ks))) [
+    (λ b. HaveSeats ds (cond b (k ∷ with_someone ks) (with_someone ks))) [
       | true ↦ (h.0, seats-populated ds ks h.1)
       | false ↦ seats-populated ds ks h.1
     ]

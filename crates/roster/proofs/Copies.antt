@@ -3,7 +3,7 @@ use Rattle.std.proofs.Common.{arith, ◌≡◌, ◌≤◌, ℕ, true, false, con
 use Rattle.std.proofs.Common.{◌∷◌, Some, unwrap_or, refl, sym, ap, ◌∙◌}
 use Rattle.std.specs.List.{AllZip}
 use Rattle.std.specs.Map.{values_of}
-use Rattle.casemapping.specs.Fold.{folded}
+use Rattle.casemapping.specs.Fold.{name_fold}
 use Rattle.roster.specs.declared.deed.Deed.{Deed}
 use Rattle.roster.specs.declared.tables.Card.{Card}
 use Rattle.roster.specs.declared.tables.Channel.{Channel}
@@ -79,7 +79,7 @@ pub keyed_copied : (es qs : List (List ℕ × Channel)) → AllZip IsCopiedChann
 keyed_copied [] [] a k = tt
 keyed_copied [] (q ∷ qs) a k = absurd a
 keyed_copied (e ∷ es) [] a k = absurd a
-keyed_copied (e ∷ es) (q ∷ qs) a k = (a.0.0 ∙ k.0 ∙ sym (ap folded a.0.1.0), keyed_copied es qs a.1 k.1)
+keyed_copied (e ∷ es) (q ∷ qs) a k = (a.0.0 ∙ k.0 ∙ sym (ap name_fold a.0.1.0), keyed_copied es qs a.1 k.1)
 
 -- ---- the lists of sessions
 

@@ -12,8 +12,8 @@ use Rattle.channel_state.specs.declared.change.Change.TheVariants.{BanSet, BanLi
 use Rattle.channel_state.specs.declared.change.Rank.TheVariants.{Operator, Voice}
 use Rattle.channel_state.specs.declared.modes.Flag.{Flag}
 use Rattle.channel_state.specs.declared.modes.Flag.TheVariants.{InviteOnly, Moderated, NoOutside, Secret, TopicLocked}
-use Rattle.channel_state.specs.State.{State, among, without, with_last, ranked, is_some_one, is_set}
-use Rattle.channel_state.specs.State.{flagged, nothing, made_by, changed, departed, lasting}
+use Rattle.channel_state.specs.State.{State, among, without, with_last, with_rank, is_some_one, is_set}
+use Rattle.channel_state.specs.State.{with_flag, nothing, made_by, with_change, after_gone, or_nothing}
 use Rattle.roster.specs.declared.deed.Deed.{Deed}
 use Rattle.roster.specs.declared.deed.Deed.TheVariants.{ChannelMade, Changed, Gone}
 use Rattle.roster.specs.LookBack.{newest, state, has_member}
@@ -66,7 +66,7 @@ still_there t u ms e = elim (eqb_tells t u) [
 
 -- who is ranked is a member, or was ranked
 ranked_of : (t u : ℕ) (on : Bool) (ts ms : List ℕ) → among t ms ≡ true → (among u ts ≡ true → among u ms ≡ true)
-    → among u (ranked t on ts) ≡ true → among u ms ≡ true
+    → among u (with_rank t on ts) ≡ true → among u ms ≡ true
 ranked_of t u false ts ms it h e = h (was_there t u ts e)
 ranked_of t u true ts ms it h e = elim (eqb_tells t u) [
   | inl same ↦ ap (λ (v : ℕ). among v ms) (sym same.1) ∙ it
@@ -76,7 +76,7 @@ ranked_of t u true ts ms it h e = elim (eqb_tells t u) [
 
 -- who is invited stays so, and whoever is pardoned then is among them
 pardoned_of : (t u : ℕ) (on : Bool) (ps is : List ℕ) → (among u ps ≡ true → among u is ≡ true)
-    → among u (ranked t on ps) ≡ true → among u (with_last t is) ≡ true
+    → among u (with_rank t on ps) ≡ true → among u (with_last t is) ≡ true
 pardoned_of t u false ps is h e = still_there t u is (h (was_there t u ps e))
 pardoned_of t u true ps is h e = elim (eqb_tells t u) [
   | inl same ↦ among-push u t (without t is) ∙ ap (λ b. among u (without t is) || b) same.0
@@ -85,7 +85,7 @@ pardoned_of t u true ps is h e = elim (eqb_tells t u) [
       ∙ sym (ap (λ b. among u (without t ps) || b) other.0) ∙ sym (among-push u t (without t ps)) ∙ e)))
 ]
 
-ranks_changed : (x : Change) (k : State) → HaveRanks k → IsFit k x → HaveRanks (changed x k)
+ranks_changed : (x : Change) (k : State) → HaveRanks k → IsFit k x → HaveRanks (with_change x k)
 ranks_changed (Joined t) k r f u = (
   λ e. still_there t u k.members ((r u).0 e),
   λ e. still_there t u k.members ((r u).1 e),
@@ -101,7 +101,7 @@ ranks_changed (RankSet t Voice on) k r f u = ((r u).0, ranked_of t u on k.voices
 ranks_changed (Invited t op) k r f u = ((r u).0, (r u).1, pardoned_of t u op k.pardoned k.invited (r u).2)
 ranks_changed _ k r f u = r u
 
-ranks_departed : (t : ℕ) (k : State) → HaveRanks k → HaveRanks (departed t k)
+ranks_departed : (t : ℕ) (k : State) → HaveRanks k → HaveRanks (after_gone t k)
 ranks_departed t k r u = (
   kept_of t u k.operators k.members (r u).0,
   kept_of t u k.voices k.members (r u).1,
@@ -115,7 +115,7 @@ ranks_by : (b : Bool) (k l : State) → HaveRanks k → HaveRanks l → HaveRank
 ranks_by true k l r q = r
 ranks_by false k l r q = q
 
-ranks_lasting : (k : State) → HaveRanks k → HaveRanks (lasting k)
+ranks_lasting : (k : State) → HaveRanks k → HaveRanks (or_nothing k)
 ranks_lasting k r = ranks_by (is_some_one k.members) k nothing r ranks_nothing
 
 fit_there : (fs : List Deed) (k c : List ℕ) (x : Change) → is_same k c ≡ true → IsFit (state fs k) x
@@ -130,21 +130,21 @@ pub ranks : (fs : List Deed) (c : List ℕ) → AreLegal fs → HaveRanks (state
 ranks [] c l = ranks_nothing
 ranks (ChannelMade t k ∷ fs) c l = ranks_by (is_same k c) (made_by t) (state fs c)
     (λ u. ((λ e. e), none_true, none_true)) (ranks fs c l.1)
-ranks (Changed k x ∷ fs) c l = ranks_if (is_same k c) (lasting (changed x (state fs c))) (state fs c)
-    (λ same. ranks_lasting (changed x (state fs c))
+ranks (Changed k x ∷ fs) c l = ranks_if (is_same k c) (or_nothing (with_change x (state fs c))) (state fs c)
+    (λ same. ranks_lasting (with_change x (state fs c))
     (ranks_changed x (state fs c) (ranks fs c l.1) (fit_there fs k c x same l.0.1))) (ranks fs c l.1)
-ranks (Gone t ∷ fs) c l = ranks_lasting (departed t (state fs c)) (ranks_departed t (state fs c) (ranks fs c l.1))
+ranks (Gone t ∷ fs) c l = ranks_lasting (after_gone t (state fs c)) (ranks_departed t (state fs c) (ranks fs c l.1))
 ranks (_ ∷ fs) c l = ranks fs c l.1
 
 -- ---- each thing that a channel has
 
-lasts : (k : State) → is_some_one (lasting k).members ≡ true → lasting k ≡ k
+lasts : (k : State) → is_some_one (or_nothing k).members ≡ true → or_nothing k ≡ k
 lasts k e = ap (λ b. cond b k nothing) (sym (ap is_some_one (members-lasting k)) ∙ e)
 
 module _ {A : Type 0} (field : State → A) (made : ℕ → A) (told : Change → Option A) (gone : ℕ → Option A) (none : A)
     (at_making : (t : ℕ) → field (made_by t) ≡ made t)
-    (at_change : (k : State) (x : Change) → HaveRanks k → IsFit k x → field (changed x k) ≡ unwrap_or (told x)
-    (field k)) (at_going : (k : State) (t : ℕ) → field (departed t k) ≡ unwrap_or (gone t) (field k)) where
+    (at_change : (k : State) (x : Change) → HaveRanks k → IsFit k x → field (with_change x k) ≡ unwrap_or (told x)
+    (field k)) (at_going : (k : State) (t : ℕ) → field (after_gone t k) ≡ unwrap_or (gone t) (field k)) where
   last : (fs : List Deed) (c : List ℕ) → AreLegal fs → has_member fs c ≡ true
       → field (state fs c) ≡ newest (tells_of made told gone c) none fs
   last [] c l e = none_true e
@@ -159,24 +159,24 @@ module _ {A : Type 0} (field : State → A) (made : ℕ → A) (told : Change �
             ∙ sym (ap (λ b. unwrap_or (cond b (Some (made t)) None) before) other)
       ]
   last (Changed k x ∷ fs) c l e =
-      let before = newest (tells_of made told gone c) none fs in let was = state fs c in let now = changed x was in
+      let before = newest (tells_of made told gone c) none fs in let was = state fs c in let now = with_change x was in
       elim (either (is_same k c)) [
         | inl same ↦
             let there : has_member fs c ≡ true = ap (λ (st : State). is_some_one st.members)
             (sym (state-same fs k c same)) ∙ l.0.0 in
-            let lives : lasting now
-            ≡ now = lasts now (sym (ap (λ b. is_some_one (cond b (lasting now) was).members) same) ∙ e) in
-            ap (λ b. field (cond b (lasting now) was)) same ∙ ap field lives
+            let lives : or_nothing now
+            ≡ now = lasts now (sym (ap (λ b. is_some_one (cond b (or_nothing now) was).members) same) ∙ e) in
+            ap (λ b. field (cond b (or_nothing now) was)) same ∙ ap field lives
             ∙ at_change was x (ranks fs c l.1) (fit_there fs k c x same l.0.1)
             ∙ ap (unwrap_or (told x)) (last fs c l.1 there)
             ∙ sym (ap (λ b. unwrap_or (cond b (told x) None) before) same)
         | inr other ↦
-            ap (λ b. field (cond b (lasting now) was)) other
-            ∙ last fs c l.1 (sym (ap (λ b. is_some_one (cond b (lasting now) was).members) other) ∙ e)
+            ap (λ b. field (cond b (or_nothing now) was)) other
+            ∙ last fs c l.1 (sym (ap (λ b. is_some_one (cond b (or_nothing now) was).members) other) ∙ e)
             ∙ sym (ap (λ b. unwrap_or (cond b (told x) None) before) other)
       ]
   last (Gone t ∷ fs) c l e =
-      let was = state fs c in let now = departed t was in
+      let was = state fs c in let now = after_gone t was in
       let some : is_some_one now.members ≡ true = sym (ap is_some_one (members-lasting now)) ∙ e in
       let there : has_member fs c ≡ true = elim (either (has_member fs c)) [
         | inl is ↦ is
@@ -187,7 +187,7 @@ module _ {A : Type 0} (field : State → A) (made : ℕ → A) (told : Change �
 
 -- ---- topic, flags, key and limit
 
-topic_step : (k : State) (x : Change) → HaveRanks k → IsFit k x → (changed x k).topic
+topic_step : (k : State) (x : Change) → HaveRanks k → IsFit k x → (with_change x k).topic
     ≡ unwrap_or (topic_told x) k.topic
 topic_step k (RankSet t Operator on) r x = refl
 topic_step k (RankSet t Voice on) r x = refl
@@ -196,7 +196,7 @@ topic_step k _ r x = refl
 pub topics : TopicsAreTheLast
 topics = last (λ k. k.topic) (λ t. None) topic_told (λ t. None) None (λ t. refl) topic_step (λ k t. refl)
 
-flag_step : (f : Flag) (k : State) (x : Change) → HaveRanks k → IsFit k x → is_set f (changed x k).modes
+flag_step : (f : Flag) (k : State) (x : Change) → HaveRanks k → IsFit k x → is_set f (with_change x k).modes
     ≡ unwrap_or (flag_told f x) (is_set f k.modes)
 flag_step InviteOnly k (FlagSet InviteOnly on) r x = refl
 flag_step InviteOnly k (FlagSet Moderated on) r x = refl
@@ -250,21 +250,21 @@ pub flags : FlagsAreTheLast
 flags f = last (λ k. is_set f k.modes) (λ t. flag_made f) (flag_told f)
     (λ t. None) false (flag_at_making f) (flag_step f) (λ k t. refl)
 
-key_flag : (f : Flag) (on : Bool) (k : State) → (flagged f on k.modes).key ≡ k.modes.key
+key_flag : (f : Flag) (on : Bool) (k : State) → (with_flag f on k.modes).key ≡ k.modes.key
 key_flag InviteOnly on k = refl
 key_flag Moderated on k = refl
 key_flag NoOutside on k = refl
 key_flag Secret on k = refl
 key_flag TopicLocked on k = refl
 
-limit_flag : (f : Flag) (on : Bool) (k : State) → (flagged f on k.modes).limit ≡ k.modes.limit
+limit_flag : (f : Flag) (on : Bool) (k : State) → (with_flag f on k.modes).limit ≡ k.modes.limit
 limit_flag InviteOnly on k = refl
 limit_flag Moderated on k = refl
 limit_flag NoOutside on k = refl
 limit_flag Secret on k = refl
 limit_flag TopicLocked on k = refl
 
-key_step : (k : State) (x : Change) → HaveRanks k → IsFit k x → (changed x k).modes.key
+key_step : (k : State) (x : Change) → HaveRanks k → IsFit k x → (with_change x k).modes.key
     ≡ unwrap_or (key_told x) k.modes.key
 key_step k (RankSet t Operator on) r x = refl
 key_step k (RankSet t Voice on) r x = refl
@@ -274,7 +274,7 @@ key_step k _ r x = refl
 pub keys : KeysAreTheLast
 keys = last (λ k. k.modes.key) (λ t. None) key_told (λ t. None) None (λ t. refl) key_step (λ k t. refl)
 
-limit_step : (k : State) (x : Change) → HaveRanks k → IsFit k x → (changed x k).modes.limit
+limit_step : (k : State) (x : Change) → HaveRanks k → IsFit k x → (with_change x k).modes.limit
     ≡ unwrap_or (limit_told x) k.modes.limit
 limit_step k (RankSet t Operator on) r x = refl
 limit_step k (RankSet t Voice on) r x = refl
@@ -332,7 +332,7 @@ lifted_told : (y p : Bool) → cond y false p ≡ unwrap_or (cond y (Some false)
 lifted_told true p = refl
 lifted_told false p = refl
 
-ban_step : (m : List ℕ) (k : State) (x : Change) → HaveRanks k → IsFit k x → banned m (changed x k).bans
+ban_step : (m : List ℕ) (k : State) (x : Change) → HaveRanks k → IsFit k x → banned m (with_change x k).bans
     ≡ unwrap_or (ban_told m x) (banned m k.bans)
 ban_step m k (RankSet t Operator on) r x = refl
 ban_step m k (RankSet t Voice on) r x = refl
@@ -360,7 +360,7 @@ put_told s t ts = elim (eqb_tells t s) [
       ∙ sym (ap (λ b. unwrap_or (cond b (Some true) None) (among s ts)) other.0)
 ]
 
-ranked_told : (s t : ℕ) (on : Bool) (ts : List ℕ) → among s (ranked t on ts)
+ranked_told : (s t : ℕ) (on : Bool) (ts : List ℕ) → among s (with_rank t on ts)
     ≡ unwrap_or (cond (t == s) (Some on) None) (among s ts)
 ranked_told s t true ts = put_told s t ts
 ranked_told s t false ts = left_told s t ts
@@ -378,7 +378,7 @@ joined_told s t ts ms h out = elim (eqb_tells t s) [
   | inr other ↦ sym (ap (λ b. unwrap_or (cond b (Some false) None) (among s ts)) other.0)
 ]
 
-operator_step : (s : ℕ) (k : State) (x : Change) → HaveRanks k → IsFit k x → among s (changed x k).operators
+operator_step : (s : ℕ) (k : State) (x : Change) → HaveRanks k → IsFit k x → among s (with_change x k).operators
     ≡ unwrap_or (operator_told s x) (among s k.operators)
 operator_step s k (Joined t) r x = joined_told s t k.operators k.members (r s).0 x
 operator_step s k (Left t) r x = left_told s t k.operators
@@ -390,7 +390,7 @@ pub operators : OperatorsAreTheLast
 operators s = last (λ k. among s k.operators) (λ t. t == s) (operator_told s) (gone_told s) false
     (λ t. or-false (t == s)) (operator_step s) (λ k t. left_told s t k.operators)
 
-voice_step : (s : ℕ) (k : State) (x : Change) → HaveRanks k → IsFit k x → among s (changed x k).voices
+voice_step : (s : ℕ) (k : State) (x : Change) → HaveRanks k → IsFit k x → among s (with_change x k).voices
     ≡ unwrap_or (voice_told s x) (among s k.voices)
 voice_step s k (Joined t) r x = joined_told s t k.voices k.members (r s).1 x
 voice_step s k (Left t) r x = left_told s t k.voices
@@ -404,7 +404,7 @@ voices s = last (λ k. among s k.voices) (λ t. false) (voice_told s) (gone_told
 
 -- ---- invitations
 
-invited_step : (s : ℕ) (k : State) (x : Change) → HaveRanks k → IsFit k x → among s (changed x k).invited
+invited_step : (s : ℕ) (k : State) (x : Change) → HaveRanks k → IsFit k x → among s (with_change x k).invited
     ≡ unwrap_or (invited_told s x) (among s k.invited)
 invited_step s k (Joined t) r x = left_told s t k.invited
 invited_step s k (RankSet t Operator on) r x = refl
@@ -412,7 +412,7 @@ invited_step s k (RankSet t Voice on) r x = refl
 invited_step s k (Invited t op) r x = put_told s t k.invited
 invited_step s k _ r x = refl
 
-pardoned_step : (s : ℕ) (k : State) (x : Change) → HaveRanks k → IsFit k x → among s (changed x k).pardoned
+pardoned_step : (s : ℕ) (k : State) (x : Change) → HaveRanks k → IsFit k x → among s (with_change x k).pardoned
     ≡ unwrap_or (pardoned_told s x) (among s k.pardoned)
 pardoned_step s k (Joined t) r x = left_told s t k.pardoned
 pardoned_step s k (RankSet t Operator on) r x = refl

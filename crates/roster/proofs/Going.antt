@@ -4,8 +4,8 @@ use Rattle.std.proofs.Common.{◌++◌, filter, Option, Some, None, arith, refl,
 use Rattle.std.proofs.lemmas.List.Folds.{list_any-append}
 use Rattle.std.specs.Option.{option_map}
 use Rattle.casemapping.specs.Fold.{is_same}
-use Rattle.channel_state.specs.State.{State, among, without, is_some_one, nothing, departed, lasting}
-use Rattle.channel_state.specs.Held.{Held}
+use Rattle.channel_state.specs.State.{State, among, without, is_some_one, nothing, after_gone, or_nothing}
+use Rattle.channel_state.specs.Held.{ChannelView}
 use Rattle.roster.specs.declared.deed.Deed.{Deed}
 use Rattle.roster.specs.declared.deed.Deed.TheVariants.{Gone}
 use Rattle.roster.specs.declared.tables.Channel.{Channel}
@@ -33,7 +33,7 @@ without_none t (u ∷ ts) e =
     ap (λ b. cond (not b) (u ∷ without t ts) (without t ts)) parts.0 ∙ ap (λ us. u ∷ us) (without_none t ts parts.1)
 
 pub untouched : (t : ℕ) (k : State) → among t k.members ≡ false → among t k.operators ≡ false
-    → among t k.voices ≡ false → among t k.invited ≡ false → among t k.pardoned ≡ false → departed t k ≡ k
+    → among t k.voices ≡ false → among t k.invited ≡ false → among t k.pardoned ≡ false → after_gone t k ≡ k
 untouched t k m o v n p =
     let em = without_none t k.members m in
     let eo = without_none t k.operators o in
@@ -57,7 +57,7 @@ none_of false b h e = refl
 -- the channels that it is on, and those that are noted, are all that it can leave
 pub covered : (fs : List Deed) (t : ℕ) (own notes : List (List ℕ)) → AreLegal fs → own ≡ channels_on fs t
     → ((c : List ℕ) → among t (state fs c).invited ≡ true → holds_name c notes ≡ true) → (c : List ℕ)
-    → holds_name c (own ++ notes) ≡ false → departed t (state fs c) ≡ state fs c
+    → holds_name c (own ++ notes) ≡ false → after_gone t (state fs c) ≡ state fs c
 covered fs t own notes legal eo en c miss =
     let parts = or-none (holds_name c own) (holds_name c notes)
     (sym (list_any-append (λ k. is_same k c) own notes) ∙ miss) in
@@ -81,7 +81,7 @@ without_twice t (u ∷ ts) = let us = without t ts in elim (either (u == t)) [
       ∙ ap (λ xs. u ∷ xs) (without_twice t ts) ∙ sym (ap (λ b. cond (not b) (u ∷ us) us) miss)
 ]
 
-departed_twice : (t : ℕ) (k : State) → departed t (departed t k) ≡ departed t k
+departed_twice : (t : ℕ) (k : State) → after_gone t (after_gone t k) ≡ after_gone t k
 departed_twice t k =
     let em = without_twice t k.members in
     let eo = without_twice t k.operators in
@@ -98,22 +98,22 @@ departed_twice t k =
     }
 
 abbrev left : ℕ → State → State
-left t k = lasting (departed t k)
+left t k = or_nothing (after_gone t k)
 
 left_twice : (t : ℕ) (k : State) → left t (left t k) ≡ left t k
-left_twice t k = elim (either (is_some_one (departed t k).members)) [
+left_twice t k = elim (either (is_some_one (after_gone t k).members)) [
   | inl some ↦
-      let same : lasting (departed t k) ≡ departed t k = ap (λ b. cond b (departed t k) nothing) some in
-      ap (left t) same ∙ ap lasting (departed_twice t k)
+      let same : or_nothing (after_gone t k) ≡ after_gone t k = ap (λ b. cond b (after_gone t k) nothing) some in
+      ap (left t) same ∙ ap or_nothing (departed_twice t k)
   | inr none ↦
-      let same : lasting (departed t k) ≡ nothing = ap (λ b. cond b (departed t k) nothing) none in
+      let same : or_nothing (after_gone t k) ≡ nothing = ap (λ b. cond b (after_gone t k) nothing) none in
       ap (left t) same ∙ sym same
 ]
 
 had_one : (t : ℕ) (k : State) → is_some_one (left t k).members ≡ true → is_some_one k.members ≡ true
 had_one t k e = elim (either (is_some_one k.members)) [
   | inl was ↦ was
-  | inr was_not ↦ absurd (let f : true ≡ false = sym e ∙ ap is_some_one (members-lasting (departed t k))
+  | inr was_not ↦ absurd (let f : true ≡ false = sym e ∙ ap is_some_one (members-lasting (after_gone t k))
       ∙ someone-without t k.members was_not in cc)
 ]
 
@@ -124,7 +124,7 @@ module _ (ks : List Channel) (apart : AreApart ks) (held : AreHeld ks) where
   found_held c = ap (λ (ls : List Channel). channel_of ls c) (sym (all_populated ks held))
       ∙ channel_of-populated ks c apart
 
-  lasts_in : (c : List ℕ) → lasting (state_in ks c) ≡ state_in ks c
+  lasts_in : (c : List ℕ) → or_nothing (state_in ks c) ≡ state_in ks c
   lasts_in c = sym (kept_state (channel_of ks c)) ∙ ap found_state (sym (found_held c))
 
   pub leaves_none : (t : ℕ) → LeavesThose ks ks [] t
@@ -138,7 +138,7 @@ module _ (ks : List Channel) (apart : AreApart ks) (held : AreHeld ks) where
     seats = λ ds h. h;
   }
 
-seats_with : (ds : List Deed) (ks : List Channel) (n : List ℕ) (m : Held) → HaveSeats ds ks
+seats_with : (ds : List Deed) (ks : List Channel) (n : List ℕ) (m : ChannelView) → HaveSeats ds ks
     → room_in ks n ≤ m.room + 0 → HaveSeats ds (with_held ks n m)
 seats_with ds [] n m h l = tt
 seats_with ds (k ∷ ks) n m h l = elim (either (is_same k.name n)) [
@@ -146,8 +146,8 @@ seats_with ds (k ∷ ks) n m h l = elim (either (is_same k.name n)) [
   | inr other ↦ let r : room_in ks n ≤ m.room + 0 = rw other at l in rw other (h.0, seats_with ds ks n m h.1 r)
 ]
 
-state_by : (o : Option Channel) (m : Held) (t : ℕ) → m.state ≡ departed t (found_state o)
-    → found_state (option_map (reheld m) o) ≡ departed t (found_state o)
+state_by : (o : Option Channel) (m : ChannelView) (t : ℕ) → m.state ≡ after_gone t (found_state o)
+    → found_state (option_map (reheld m) o) ≡ after_gone t (found_state o)
 state_by None m t e = refl
 state_by (Some k) m t e = e
 
@@ -165,7 +165,7 @@ module _ (ks ls : List Channel) (n : List ℕ) (t : ℕ) (apart : AreApart ks) (
       (λ b. name_at (cond b (option_map (reheld d.reholds.held) (channel_of ks c)) (channel_of ks c))
       ≡ name_at (channel_of ks c)) [ true ↦ name_reheld (channel_of ks c) d.reholds.held | false ↦ refl ]
 
-  state_now : (c : List ℕ) → state_in d.between c ≡ cond (is_same n c) (departed t (state_in ks c)) (state_in ks c)
+  state_now : (c : List ℕ) → state_in d.between c ≡ cond (is_same n c) (after_gone t (state_in ks c)) (state_in ks c)
   state_now c =
       ap (λ (xs : List Channel). state_in xs c) d.reholds.changed
       ∙ ap found_state (channel_of-with ks n c d.reholds.held)
@@ -174,19 +174,20 @@ module _ (ks ls : List Channel) (n : List ℕ) (t : ℕ) (apart : AreApart ks) (
             ap (λ b. found_state (cond b (option_map (reheld d.reholds.held) (channel_of ks c)) (channel_of ks c)))
             same
             ∙ state_by (channel_of ks c) d.reholds.held t
-            (d.reholds.state ∙ ap (λ o. departed t (found_state o)) (channel_of-same ks n c same))
-            ∙ sym (ap (λ b. cond b (departed t (state_in ks c)) (state_in ks c)) same)
+            (d.reholds.state ∙ ap (λ o. after_gone t (found_state o)) (channel_of-same ks n c same))
+            ∙ sym (ap (λ b. cond b (after_gone t (state_in ks c)) (state_in ks c)) same)
         | inr other ↦
             ap (λ b. found_state (cond b (option_map (reheld d.reholds.held) (channel_of ks c)) (channel_of ks c)))
             other
-            ∙ sym (ap (λ b. cond b (departed t (state_in ks c)) (state_in ks c)) other)
+            ∙ sym (ap (λ b. cond b (after_gone t (state_in ks c)) (state_in ks c)) other)
       ]
 
-  lasting_by : (b : Bool) (new old : State) → lasting old ≡ old → lasting (cond b new old) ≡ cond b (lasting new) old
+  lasting_by : (b : Bool) (new old : State) → or_nothing old ≡ old → or_nothing (cond b new old)
+      ≡ cond b (or_nothing new) old
   lasting_by true new old e = refl
   lasting_by false new old e = e
 
-  ended_state : (c : List ℕ) → state_in ls c ≡ lasting (state_in d.between c)
+  ended_state : (c : List ℕ) → state_in ls c ≡ or_nothing (state_in d.between c)
   ended_state c = ap (λ (xs : List Channel). state_in xs c) d.ended
       ∙ ap found_state (channel_of-populated d.between c apart_mid) ∙ kept_state (channel_of d.between c)
 
@@ -196,7 +197,7 @@ module _ (ks ls : List Channel) (n : List ℕ) (t : ℕ) (apart : AreApart ks) (
   pub leaves_one : LeavesThose ks ls (n ∷ []) t
   leaves_one = record {
     states = λ c.
-        ended_state c ∙ ap lasting (state_now c) ∙ lasting_by (is_same n c) (departed t (state_in ks c))
+        ended_state c ∙ ap or_nothing (state_now c) ∙ lasting_by (is_same n c) (after_gone t (state_in ks c))
         (state_in ks c) (lasts_in ks apart held c)
         ∙ ap (λ b. cond b (left t (state_in ks c)) (state_in ks c)) (sym (or-false (is_same n c)));
     names = λ c.
@@ -275,12 +276,12 @@ module _ (ks ms ls : List Channel) (cs ds : List (List ℕ)) (t : ℕ) (v : Leav
 
 module _ (ks ls : List Channel) (fs : List Deed) (cs : List (List ℕ))
     (t : ℕ) (i : HoldChannels ks fs) (v : LeavesThose ks ls cs t)
-    (cover : (c : List ℕ) → holds_name c cs ≡ false → departed t (state fs c) ≡ state fs c) where
+    (cover : (c : List ℕ) → holds_name c cs ≡ false → after_gone t (state fs c) ≡ state fs c) where
   left_now : (c : List ℕ) → state_in ls c ≡ left t (state fs c)
   left_now c = v.states c ∙ elim (either (holds_name c cs)) [
     | inl it ↦ ap (λ b. cond b (left t (state_in ks c)) (state_in ks c)) it ∙ ap (left t) (i.states c)
     | inr miss ↦ ap (λ b. cond b (left t (state_in ks c)) (state_in ks c)) miss ∙ i.states c
-        ∙ sym (ap lasting (cover c miss) ∙ state-lasts fs c)
+        ∙ sym (ap or_nothing (cover c miss) ∙ state-lasts fs c)
   ]
 
   there_now : (c : List ℕ) → is_some_one (state_in ls c).members ≡ has_member (Gone t ∷ fs) c

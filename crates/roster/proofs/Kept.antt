@@ -4,11 +4,11 @@ use Rattle.std.proofs.Common.{cond, List, [], ◌∷◌, ◌++◌, length, drop,
 use Rattle.std.proofs.Common.{unwrap_or, Some, None, arith, refl, sym, ap, ◌∙◌, subst}
 use Rattle.std.specs.List.{flat_map}
 use Rattle.std.specs.Str.{bytes_eq}
-use Rattle.casemapping.specs.Fold.{folded, is_same}
+use Rattle.casemapping.specs.Fold.{name_fold, is_same}
 use Rattle.casemapping.proofs.SameNames.{is_same-sym}
 use Rattle.channel_state.specs.declared.change.Change.{Change}
-use Rattle.channel_state.specs.Held.{Held}
-use Rattle.channel_state.specs.State.{departed}
+use Rattle.channel_state.specs.Held.{ChannelView}
+use Rattle.channel_state.specs.State.{after_gone}
 use Rattle.chronicle.specs.declared.why.Why.{Why}
 use Rattle.roster.specs.declared.deed.Deed.{Deed}
 use Rattle.roster.specs.declared.deed.Deed.TheVariants.{NickSet}
@@ -16,10 +16,10 @@ use Rattle.roster.specs.declared.deed.Deed.TheVariants.{ChannelMade, Changed, En
 use Rattle.roster.specs.declared.tables.Person.{Person}
 use Rattle.roster.specs.declared.tables.Card.{Card}
 use Rattle.roster.specs.declared.tables.Channel.{Channel}
-use Rattle.roster.specs.LookBack.{opened, nick, why, tells_why, state}
+use Rattle.roster.specs.LookBack.{opened_in, nick, why, tells_why, state}
 use Rattle.roster.specs.Legal.{IsOpened, IsNext, AreNext}
 use Rattle.roster.specs.Table.{Table}
-use Rattle.roster.specs.Tables.{nobody, heard, is_about, is_plain, is_tame, is_opening, person_at, why_at}
+use Rattle.roster.specs.Tables.{nobody, after_deed, is_about, is_plain, is_tame, is_opening, person_at, why_at}
 use Rattle.roster.specs.Tables.{held_by, Frees, IsOf, room_in, with_held, Changes, Makes, holds_name}
 use Rattle.roster.specs.Lists.{keyed_name, BeginWith}
 use Rattle.roster.specs.Stands.{person, Alike, changes, is_making, HaveSeats, AreSpare}
@@ -35,7 +35,7 @@ use Rattle.roster.proofs.SameTables.{channels_alike}
 use Rattle.roster.proofs.ChannelSteps.{channels_plain, channels_changed, channels_made}
 
 pub opened_count : (es : List (ℕ × Card)) (ws : List Why) (hs : List (List ℕ × ℕ)) (fs : List Deed)
-    → HoldPeople es ws hs fs → length (opened fs) ≡ length ws
+    → HoldPeople es ws hs fs → length (opened_in fs) ≡ length ws
 opened_count es ws hs fs i = ap length i.opened ∙ length-numbers 1 (length ws)
 
 -- ---- seats
@@ -49,7 +49,7 @@ seat_free x n ds (k ∷ ks) h = elim (either (is_same k.name n)) [
   | inr other ↦ rw other (seat_free x n ds ks h.1)
 ]
 
-seats_taken : (x : Change) (n : List ℕ) (ds : List Deed) (ks : List Channel) (m : Held)
+seats_taken : (x : Change) (n : List ℕ) (ds : List Deed) (ks : List Channel) (m : ChannelView)
     → HaveSeats (Changed n x ∷ ds) ks → room_in ks n ≤ m.room + 1 → HaveSeats ds (with_held ks n m)
 seats_taken x n ds [] m h l = tt
 seats_taken x n ds (k ∷ ks) m h l = elim (either (is_same k.name n)) [
@@ -73,7 +73,7 @@ ready_first [] d e = absurd (let f : None ≡ Some d = e in cc)
 ready_first (x ∷ ds) d e = let f : Some x ≡ Some d = e in let g : x ≡ d = cc in ap (λ y. y ∷ ds) g
 
 module _ (d e : Deed) (is : d ≡ e) (fs ds : List Deed) (es : Table (ℕ × Card)) (ws : Table Why)
-    (hs : Table (List ℕ × ℕ)) (ks : Table Channel) (spare : List Held) (folds : List (List ℕ)) where
+    (hs : Table (List ℕ × ℕ)) (ks : Table Channel) (spare : List ChannelView) (folds : List (List ℕ)) where
   -- what holds before it, by its variant
   pub before : slice_get ds 0 ≡ Some d → IsKept es ws hs ks spare folds fs ds
       → IsKept es ws hs ks spare folds fs (e ∷ drop 1 ds)
@@ -112,9 +112,9 @@ module _ (es : List (ℕ × Card)) (ws : List Why) (hs : List (List ℕ × ℕ))
     (i : HoldPeople es ws hs fs) where
   -- what is known of each after a fact
   people_told : (d : Deed) (qs : List (ℕ × Card))
-      → ((t : ℕ) → person_at qs t ≡ cond (is_about t d) (heard d (person_at es t)) (person_at es t)) → (s : ℕ)
+      → ((t : ℕ) → person_at qs t ≡ cond (is_about t d) (after_deed d (person_at es t)) (person_at es t)) → (s : ℕ)
       → person_at qs s ≡ person (d ∷ fs) s
-  people_told d qs h s = h s ∙ ap (λ (p : Person). cond (is_about s d) (heard d p) p) (i.people s)
+  people_told d qs h s = h s ∙ ap (λ (p : Person). cond (is_about s d) (after_deed d p) p) (i.people s)
       ∙ sym (person_after d fs s)
 
   -- why each ended
@@ -123,7 +123,7 @@ module _ (es : List (ℕ × Card)) (ws : List Why) (hs : List (List ℕ × ℕ))
   whys_told d vs h s = h s ∙ ap (unwrap_or (tells_why s d)) (i.whys s)
 
   pub hold_told : (d : Deed) (qs : List (ℕ × Card)) (vs : List Why) (ls : List (List ℕ × ℕ)) → IsNext fs d
-      → ((t : ℕ) → person_at qs t ≡ cond (is_about t d) (heard d (person_at es t)) (person_at es t))
+      → ((t : ℕ) → person_at qs t ≡ cond (is_about t d) (after_deed d (person_at es t)) (person_at es t))
       → ((t : ℕ) → why_at vs t ≡ unwrap_or (tells_why t d) (why_at ws t))
       → length vs ≡ length ws + cond (is_opening d) 1 0 → AreHolders ls (d ∷ fs) → HoldPeople qs vs ls (d ∷ fs)
   hold_told d qs vs ls x hp hw n hh = record {
@@ -146,7 +146,7 @@ module _ (es : List (ℕ × Card)) (ws : List Why) (hs : List (List ℕ × ℕ))
 
 -- room for nothing
 pub room_none : (es : Table (ℕ × Card)) (ws : Table Why) (hs : Table (List ℕ × ℕ)) (ks : Table Channel)
-    (spare : List Held) (folds : List (List ℕ)) → AreSpare 0 spare → HasRoom es ws hs ks spare folds []
+    (spare : List ChannelView) (folds : List (List ℕ)) → AreSpare 0 spare → HasRoom es ws hs ks spare folds []
 room_none es ws hs ks spare folds a = record {
   people = omega arith;
   whys = omega arith;
@@ -163,8 +163,8 @@ room_none es ws hs ks spare folds a = record {
 rest_of : (ks fs ms : List (List ℕ)) → ks ≡ [] → BeginWith (ks ++ fs) ms → BeginWith fs ms
 rest_of ks fs ms e b = subst (λ (xs : List (List ℕ)). BeginWith (xs ++ fs) ms) e b
 
-module _ (es : Table (ℕ × Card)) (ws : Table Why) (hs : Table (List ℕ × ℕ)) (ks : Table Channel) (spare : List Held)
-    (folds : List (List ℕ)) (fs ds : List Deed) where
+module _ (es : Table (ℕ × Card)) (ws : Table Why) (hs : Table (List ℕ × ℕ)) (ks : Table Channel)
+    (spare : List ChannelView) (folds : List (List ℕ)) (fs ds : List Deed) where
   -- there is room for it
   pub some_room : (d : Deed) → HasRoom es ws hs ks spare folds (d ∷ ds) → (0 < es.room) × (0 < ws.room)
       × (0 < hs.room) × (0 < ks.room)
@@ -178,7 +178,8 @@ module _ (es : Table (ℕ × Card)) (ws : Table Why) (hs : Table (List ℕ × �
   -- a fact of one session alone
   pub kept_plain : (d : Deed) (qs : Table (ℕ × Card)) (vs : Table Why) → is_plain d ≡ true
       → IsKept es ws hs ks spare folds fs (d ∷ ds)
-      → ((t : ℕ) → person_at qs.list t ≡ cond (is_about t d) (heard d (person_at es.list t)) (person_at es.list t))
+      → ((t : ℕ) → person_at qs.list t
+      ≡ cond (is_about t d) (after_deed d (person_at es.list t)) (person_at es.list t))
       → es.room ≤ qs.room + 1
       → ((t : ℕ) → why_at vs.list t ≡ unwrap_or (tells_why t d) (why_at ws.list t))
       → length vs.list ≡ length ws.list + cond (is_opening d) 1 0 → ws.room - 1 ≤ vs.room
@@ -210,7 +211,7 @@ module _ (es : Table (ℕ × Card)) (ws : Table Why) (hs : Table (List ℕ × �
       → ((s : ℕ) → why_at vs.list s ≡ unwrap_or (tells_why s (NickSet t n)) (why_at ws.list s))
       → length vs.list ≡ length ws.list + 0 → ws.room - 1 ≤ vs.room
       → Frees hs.list mid.list (nick fs t) → hs.room ≤ mid.room
-      → ((j : List ℕ) → held_by ls.list j ≡ cond (bytes_eq (folded n) j) (Some t) (held_by mid.list j))
+      → ((j : List ℕ) → held_by ls.list j ≡ cond (bytes_eq (name_fold n) j) (Some t) (held_by mid.list j))
       → mid.room ≤ ls.room + 1
       → BeginWith (flat_map keyed_name ds) left → IsKept qs vs ls ks spare left (NickSet t n ∷ fs) ds
   kept_renamed t n qs vs mid ls left i hp rp hw c rw hf rf ht rt b = record {
@@ -239,7 +240,7 @@ module _ (es : Table (ℕ × Card)) (ws : Table Why) (hs : Table (List ℕ × �
       → ((s : ℕ) → why_at vs.list s ≡ unwrap_or (tells_why s (Gone t)) (why_at ws.list s))
       → length vs.list ≡ length ws.list + 0 → ws.room - 1 ≤ vs.room
       → Frees hs.list ls.list (nick fs t) → hs.room ≤ ls.room → LeavesThose ks.list ms.list cs t
-      → ((c : List ℕ) → holds_name c cs ≡ false → departed t (state fs c) ≡ state fs c) → ks.room ≤ ms.room
+      → ((c : List ℕ) → holds_name c cs ≡ false → after_gone t (state fs c) ≡ state fs c) → ks.room ≤ ms.room
       → IsKept qs vs ls ms spare folds (Gone t ∷ fs) ds
   kept_gone t cs qs vs ls ms i hp rp hw c rw hf rf v cover rk = record {
     people = hold_told es.list ws.list hs.list fs i.people (Gone t) qs.list vs.list ls.list i.next.0 hp hw c
@@ -292,7 +293,7 @@ module _ (es : Table (ℕ × Card)) (ws : Table Why) (hs : Table (List ℕ × �
 
   -- a channel was made
   pub kept_made : (t : ℕ) (n : List ℕ) (qs : Table (ℕ × Card)) (vs : Table Why) (ms : Table Channel)
-      (rest : List Held) (left : List (List ℕ)) → IsKept es ws hs ks spare folds fs (ChannelMade t n ∷ ds)
+      (rest : List ChannelView) (left : List (List ℕ)) → IsKept es ws hs ks spare folds fs (ChannelMade t n ∷ ds)
       → ((s : ℕ) → person_at qs.list s ≡ person_at es.list s) → qs.room ≡ es.room
       → ((s : ℕ) → why_at vs.list s ≡ unwrap_or (tells_why s (ChannelMade t n)) (why_at ws.list s))
       → length vs.list ≡ length ws.list + 0 → ws.room - 1 ≤ vs.room
@@ -357,7 +358,7 @@ module _ (es : Table (ℕ × Card)) (ws : Table Why) (hs : Table (List ℕ × �
 
   -- tables that show the same, with other room
   pub kept_again : (qs : Table (ℕ × Card)) (vs : Table Why) (ls : Table (List ℕ × ℕ)) (ms : Table Channel)
-      (rest : List Held) (left : List (List ℕ)) (rs : List Deed) → IsKept es ws hs ks spare folds fs ds
+      (rest : List ChannelView) (left : List (List ℕ)) (rs : List Deed) → IsKept es ws hs ks spare folds fs ds
       → ((t : ℕ) → person_at qs.list t ≡ person_at es.list t) → vs.list ≡ ws.list → ls.list ≡ hs.list
       → Alike ks.list ms.list → AreNext fs rs → HasRoom qs vs ls ms rest left rs
       → IsKept qs vs ls ms rest left fs rs

@@ -7,24 +7,25 @@ use Rattle.std.specs.Map.{lookup, values_of, set_value, remove_entry}
 use Rattle.std.specs.Option.{option_map_or}
 use Rattle.std.specs.Str.{bytes_eq}
 use Rattle.indexmap.specs.IndexMap.{set_value_at}
-use Rattle.casemapping.specs.Fold.{folded, is_same}
+use Rattle.casemapping.specs.Fold.{name_fold, is_same}
 use Rattle.casemapping.proofs.SameNames.{is_same-sym}
 use Rattle.channel_state.specs.State.{State, is_some_one, nothing}
-use Rattle.channel_state.specs.Held.{Held}
+use Rattle.channel_state.specs.Held.{ChannelView}
 use Rattle.roster.specs.declared.tables.Channel.{Channel}
-use Rattle.roster.specs.Tables.{channel_of, state_in, room_in, with_held, is_populated, populated, AreKeyed, Reholds}
+use Rattle.roster.specs.Tables.{channel_of, state_in, room_in, with_held, is_populated, with_someone, AreKeyed}
+use Rattle.roster.specs.Tables.{Reholds}
 use Rattle.roster.specs.Stands.{AreHeld, AreHeldBut, Reserves}
 use Rattle.roster.proofs.Bools.{either}
 
 abbrev pub test : List ℕ → List ℕ → Bool
-test c = bytes_eq (folded c)
+test c = bytes_eq (name_fold c)
 
-pub same_is : (a b : List ℕ) → is_same a b ≡ bytes_eq (folded a) (folded b)
+pub same_is : (a b : List ℕ) → is_same a b ≡ bytes_eq (name_fold a) (name_fold b)
 unfolding is_same
 same_is a b = refl
 
 -- a folded name is a channel's key where the name is its name
-test_is : (c : List ℕ) (e : List ℕ × Channel) → e.0 ≡ folded e.1.name → test c e.0 ≡ is_same e.1.name c
+test_is : (c : List ℕ) (e : List ℕ × Channel) → e.0 ≡ name_fold e.1.name → test c e.0 ≡ is_same e.1.name c
 test_is c e k = ap (test c) k ∙ sym (same_is c e.1.name) ∙ is_same-sym c e.1.name
 
 -- a look-up by key is one by name
@@ -34,7 +35,7 @@ found_keyed [] c a = refl
 found_keyed (e ∷ es) c a = ap (λ b. cond b (Some e.1) (lookup (test c) es)) (test_is c e a.0)
     ∙ ap (cond (is_same e.1.name c) (Some e.1)) (found_keyed es c a.1)
 
-abbrev pub held_as : Channel → Held → Channel
+abbrev pub held_as : Channel → ChannelView → Channel
 held_as x h = record { name = x.name; held = h }
 
 first_is : (c : List ℕ) (e : List ℕ × Channel) (es : List (List ℕ × Channel)) (x : Channel) → test c e.0 ≡ true
@@ -47,7 +48,7 @@ rest_has : (c : List ℕ) (e : List ℕ × Channel) (es : List (List ℕ × Chan
 rest_has c e es x miss at = sym (ap (λ b. cond b (Some e.1) (lookup (test c) es)) miss) ∙ at
 
 -- a channel that was found is written
-pub set_keyed : (es : List (List ℕ × Channel)) (c : List ℕ) (x : Channel) (h : Held) → AreKeyed es
+pub set_keyed : (es : List (List ℕ × Channel)) (c : List ℕ) (x : Channel) (h : ChannelView) → AreKeyed es
     → lookup (test c) es ≡ Some x → values_of (set_value (test c) es (held_as x h)) ≡ with_held (values_of es) c h
 set_keyed [] c x h a at = absurd (let f : ◌≡◌ {A = Option Channel} None (Some x) = at in cc)
 set_keyed (e ∷ es) c x h a at = let t = test_is c e a.0 in elim (either (is_same e.1.name c)) [
@@ -61,17 +62,17 @@ set_keyed (e ∷ es) c x h a at = let t = test_is c e a.0 in elim (either (is_sa
       ∙ sym (ap (λ b. cond b (held_as e.1 h ∷ values_of es) (e.1 ∷ with_held (values_of es) c h)) miss)
 ]
 
-pub keyed_set : (es : List (List ℕ × Channel)) (c : List ℕ) (x : Channel) (h : Held) → AreKeyed es
+pub keyed_set : (es : List (List ℕ × Channel)) (c : List ℕ) (x : Channel) (h : ChannelView) → AreKeyed es
     → lookup (test c) es ≡ Some x → AreKeyed (set_value (test c) es (held_as x h))
 keyed_set [] c x h a at = tt
 keyed_set (e ∷ es) c x h a at = elim (either (test c e.0)) [
-  | inl hit ↦ rw hit (a.0 ∙ ap (λ (y : Channel). folded y.name) (first_is c e es x hit at), a.1)
+  | inl hit ↦ rw hit (a.0 ∙ ap (λ (y : Channel). name_fold y.name) (first_is c e es x hit at), a.1)
   | inr miss ↦ rw miss (a.0, keyed_set es c x h a.1 (rest_has c e es x miss at))
 ]
 
 -- a channel that was found by a key was written, in a table that shows as ks
 module _ (es now : List (List ℕ × Channel)) (ks : List Channel) (k c : List ℕ) (x : Channel)
-    (h : Held) (key : k ≡ folded c) (keyed : AreKeyed es) (view : values_of es ≡ ks)
+    (h : ChannelView) (key : k ≡ name_fold c) (keyed : AreKeyed es) (view : values_of es ≡ ks)
     (at : Some x ≡ lookup (bytes_eq k) es) where
   hit : lookup (test c) es ≡ Some x
   hit = ap (λ (j : List ℕ). lookup (bytes_eq j) es) (sym key) ∙ sym at
@@ -90,7 +91,7 @@ module _ (es now : List (List ℕ × Channel)) (ks : List Channel) (k c : List �
     now_list = ap values_of so ∙ set_keyed es c x h keyed hit ∙ ap (λ (ls : List Channel). with_held ls c h) view
 
 -- none was found
-pub unseen : (es : List (List ℕ × Channel)) (ks : List Channel) (k c : List ℕ) → k ≡ folded c → AreKeyed es
+pub unseen : (es : List (List ℕ × Channel)) (ks : List Channel) (k c : List ℕ) → k ≡ name_fold c → AreKeyed es
     → values_of es ≡ ks → None ≡ lookup (bytes_eq k) es → channel_of ks c ≡ None
 unseen es ks k c key keyed view at = ap (λ (ls : List Channel). channel_of ls c) (sym view)
     ∙ sym (found_keyed es c keyed) ∙ ap (λ (j : List ℕ). lookup (bytes_eq j) es) (sym key) ∙ sym at
@@ -116,7 +117,7 @@ module _ (ks : List Channel) (c : List ℕ) (x : Channel) (at : channel_of ks c 
   state_at = ap (λ o. option_map_or (λ (k : Channel). k.held.state) o nothing) at
 
 -- and where it wasn't
-pub with-absent : (ks : List Channel) (c : List ℕ) (m : Held) → channel_of ks c ≡ None → with_held ks c m ≡ ks
+pub with-absent : (ks : List Channel) (c : List ℕ) (m : ChannelView) → channel_of ks c ≡ None → with_held ks c m ≡ ks
 with-absent [] c m e = refl
 with-absent (k ∷ ks) c m e = elim (either (is_same k.name c)) [
   | inl hit ↦ absurd (let f : Some k ≡ None = ap (λ b. cond b (Some k) (channel_of ks c)) (sym hit) ∙ e in cc)
@@ -135,8 +136,8 @@ pub some_same : (x y : Channel) → Some x ≡ Some y → x ≡ y
 some_same x y e = cc
 
 -- what was found is held as it is
-pub with_same : (ks : List Channel) (c : List ℕ) (x : Channel) (h : Held) → channel_of ks c ≡ Some x → h ≡ x.held
-    → with_held ks c h ≡ ks
+pub with_same : (ks : List Channel) (c : List ℕ) (x : Channel) (h : ChannelView) → channel_of ks c ≡ Some x
+    → h ≡ x.held → with_held ks c h ≡ ks
 with_same [] c x h at e = refl
 with_same (k ∷ ks) c x h at e = elim (either (is_same k.name c)) [
   | inl same ↦
@@ -157,7 +158,7 @@ reholds_none ks c f less out = record {
   room = let one : room_in ks c ≡ 1 = ap (λ o. option_map_or (λ (k : Channel). k.held.room) o 1) out in omega arith;
 }
 
-pub reholds_found : (ks ls : List Channel) (c : List ℕ) (x : Channel) (h : Held) (f : State → State) (less : ℕ)
+pub reholds_found : (ks ls : List Channel) (c : List ℕ) (x : Channel) (h : ChannelView) (f : State → State) (less : ℕ)
     → channel_of ks c ≡ Some x → ls ≡ with_held ks c h → h.state ≡ f x.held.state → x.held.room ≤ h.room + less
     → Reholds ks ls c (f (state_in ks c)) less
 reholds_found ks ls c x h f less at e s r = record {
@@ -169,12 +170,12 @@ reholds_found ks ls c x h f less at e s r = record {
 
 -- ---- the channel that nobody is on any more ends
 
-pub all_populated : (ks : List Channel) → AreHeld ks → populated ks ≡ ks
+pub all_populated : (ks : List Channel) → AreHeld ks → with_someone ks ≡ ks
 all_populated [] a = refl
-all_populated (k ∷ ks) a = ap (λ b. cond b (k ∷ populated ks) (populated ks)) a.0 ∙ ap
+all_populated (k ∷ ks) a = ap (λ b. cond b (k ∷ with_someone ks) (with_someone ks)) a.0 ∙ ap
     (λ xs. k ∷ xs) (all_populated ks a.1)
 
-pub held_with : (ks : List Channel) (c : List ℕ) (h : Held) → is_some_one h.state.members ≡ true → AreHeld ks
+pub held_with : (ks : List Channel) (c : List ℕ) (h : ChannelView) → is_some_one h.state.members ≡ true → AreHeld ks
     → AreHeld (with_held ks c h)
 held_with [] c h e a = tt
 held_with (k ∷ ks) c h e a = elim (either (is_same k.name c)) [
@@ -182,7 +183,7 @@ held_with (k ∷ ks) c h e a = elim (either (is_same k.name c)) [
   | inr miss ↦ rw miss (a.0, held_with ks c h e a.1)
 ]
 
-pub held_but : (ks : List Channel) (c : List ℕ) (h : Held) → is_some_one h.state.members ≡ false → AreHeld ks
+pub held_but : (ks : List Channel) (c : List ℕ) (h : ChannelView) → is_some_one h.state.members ≡ false → AreHeld ks
     → AreHeldBut c (with_held ks c h)
 held_but [] c h e a = tt
 held_but (k ∷ ks) c h e a = elim (either (is_same k.name c)) [
@@ -191,19 +192,19 @@ held_but (k ∷ ks) c h e a = elim (either (is_same k.name c)) [
 ]
 
 pub removed_keyed : (es : List (List ℕ × Channel)) (c : List ℕ) → AreKeyed es → AreHeldBut c (values_of es)
-    → values_of (remove_entry (test c) es) ≡ populated (values_of es)
+    → values_of (remove_entry (test c) es) ≡ with_someone (values_of es)
 removed_keyed [] c a b = refl
 removed_keyed (e ∷ es) c a b = let t = test_is c e a.0 in elim (either (is_same e.1.name c)) [
   | inl same ↦
       let p = b.0 same in
       ap (λ q. values_of (cond q es (e ∷ remove_entry (test c) es))) (t ∙ same)
       ∙ sym (all_populated (values_of es) p.1)
-      ∙ sym (ap (λ q. cond q (e.1 ∷ populated (values_of es)) (populated (values_of es))) p.0)
+      ∙ sym (ap (λ q. cond q (e.1 ∷ with_someone (values_of es)) (with_someone (values_of es))) p.0)
   | inr miss ↦
       let p = b.1 miss in
       ap (λ q. values_of (cond q es (e ∷ remove_entry (test c) es))) (t ∙ miss)
       ∙ ap (λ ks. e.1 ∷ ks) (removed_keyed es c a.1 p.1)
-      ∙ sym (ap (λ q. cond q (e.1 ∷ populated (values_of es)) (populated (values_of es))) p.0)
+      ∙ sym (ap (λ q. cond q (e.1 ∷ with_someone (values_of es)) (with_someone (values_of es))) p.0)
 ]
 
 pub keyed_removed : (es : List (List ℕ × Channel)) (c : List ℕ) → AreKeyed es → AreKeyed (remove_entry (test c) es)
@@ -218,7 +219,7 @@ pub values-push : (es : List (List ℕ × Channel)) (e : List ℕ × Channel) �
 values-push [] e = refl
 values-push (x ∷ es) e = ap (λ ks. x.1 ∷ ks) (values-push es e)
 
-pub keyed-push : (es : List (List ℕ × Channel)) (e : List ℕ × Channel) → AreKeyed es → e.0 ≡ folded e.1.name
+pub keyed-push : (es : List (List ℕ × Channel)) (e : List ℕ × Channel) → AreKeyed es → e.0 ≡ name_fold e.1.name
     → AreKeyed (es ++ e ∷ [])
 keyed-push [] e a k = (k, tt)
 keyed-push (x ∷ es) e a k = (a.0, keyed-push es e a.1 k)
@@ -226,11 +227,11 @@ keyed-push (x ∷ es) e a k = (a.0, keyed-push es e a.1 k)
 -- ---- those that have a member
 
 pub filter_keyed : (es : List (List ℕ × Channel)) → values_of (filter (λ e. is_populated e.1) es)
-    ≡ populated (values_of es)
+    ≡ with_someone (values_of es)
 filter_keyed [] = refl
 filter_keyed (e ∷ es) = elim (is_populated e.1) as
     (λ b. values_of (cond b (e ∷ filter (λ x. is_populated x.1) es) (filter (λ x. is_populated x.1) es))
-    ≡ cond b (e.1 ∷ populated (values_of es)) (populated (values_of es))) [
+    ≡ cond b (e.1 ∷ with_someone (values_of es)) (with_someone (values_of es))) [
       | true ↦ ap (λ ks. e.1 ∷ ks) (filter_keyed es)
       | false ↦ filter_keyed es
     ]
@@ -250,10 +251,10 @@ within_some [] i l e = omega arith
 within_some (k ∷ ks) zero l e = let f : Some k ≡ None = e in cc
 within_some (k ∷ ks) (suc i) l e = within_some ks i (omega arith) e
 
-pub keyed_at : (es : List (List ℕ × Channel)) (i : ℕ) (x : Channel) (h : Held) → AreKeyed es
+pub keyed_at : (es : List (List ℕ × Channel)) (i : ℕ) (x : Channel) (h : ChannelView) → AreKeyed es
     → slice_get (values_of es) i ≡ Some x → AreKeyed (set_value_at es i (held_as x h))
 keyed_at [] i x h a e = tt
-keyed_at (k ∷ es) zero x h a e = (a.0 ∙ ap (λ (y : Channel). folded y.name) (some_same k.1 x e), a.1)
+keyed_at (k ∷ es) zero x h a e = (a.0 ∙ ap (λ (y : Channel). name_fold y.name) (some_same k.1 x e), a.1)
 keyed_at (k ∷ es) (suc i) x h a e = (a.0, keyed_at es i x h a.1 e)
 
 values_set : (es : List (List ℕ × Channel)) (i : ℕ) (w : Channel) → values_of (set_value_at es i w)

@@ -5,7 +5,7 @@ use Rattle.std.proofs.lemmas.List.Sums.{sum_by-cons, count_by-le-length}
 use Rattle.roster.specs.declared.deed.Deed.{Deed}
 use Rattle.roster.specs.declared.tables.Channel.{Channel}
 use Rattle.channel_state.specs.State.{nothing}
-use Rattle.channel_state.specs.Held.{Held}
+use Rattle.channel_state.specs.Held.{ChannelView}
 use Rattle.std.specs.List.{list_any}
 use Rattle.std.specs.Option.{option_map_or}
 use Rattle.std.specs.List.{flat_map}
@@ -23,17 +23,17 @@ use Rattle.roster.proofs.ChannelTable.{apart-with}
 
 -- ---- lists that are spare
 
-pub spare_last : (n : ℕ) (ms : List Held) (m : Held) → AreSpare n (ms ++ m ∷ []) → AreSpare n ms
+pub spare_last : (n : ℕ) (ms : List ChannelView) (m : ChannelView) → AreSpare n (ms ++ m ∷ []) → AreSpare n ms
     × (m.state ≡ nothing) × (n ≤ m.room)
 spare_last n [] m a = (tt, a.0, a.1)
 spare_last n (x ∷ ms) m a = let rest = spare_last n ms m a.2 in ((a.0, a.1, rest.0), rest.1, rest.2)
 
-pub spare_push : (n : ℕ) (ms : List Held) (m : Held) → AreSpare n ms → m.state ≡ nothing → n ≤ m.room
+pub spare_push : (n : ℕ) (ms : List ChannelView) (m : ChannelView) → AreSpare n ms → m.state ≡ nothing → n ≤ m.room
     → AreSpare n (ms ++ m ∷ [])
 spare_push n [] m a e l = (e, l, tt)
 spare_push n (x ∷ ms) m a e l = (a.0, a.1, spare_push n ms m a.2 e l)
 
-pub spare_less : (n k : ℕ) (ms : List Held) → k ≤ n → AreSpare n ms → AreSpare k ms
+pub spare_less : (n k : ℕ) (ms : List ChannelView) → k ≤ n → AreSpare n ms → AreSpare k ms
 spare_less n k [] l a = tt
 spare_less n k (m ∷ ms) l a = (a.0, (let r = a.1 in omega arith), spare_less n k ms l a.2)
 
@@ -78,7 +78,7 @@ pub alike_refl : (ks : List Channel) → Alike ks ks
 alike_refl [] = tt
 alike_refl (k ∷ ks) = (refl, refl, alike_refl ks)
 
-pub alike_with : (ks : List Channel) (c : List ℕ) (m : Held)
+pub alike_with : (ks : List Channel) (c : List ℕ) (m : ChannelView)
     → ((x : Channel) → channel_of ks c ≡ Some x → m.state ≡ x.held.state) → Alike ks (with_held ks c m)
 alike_with [] c m e = tt
 alike_with (k ∷ ks) c m e = elim (either (is_same k.name c)) [
@@ -134,7 +134,7 @@ others_apart a c (k ∷ ks) s e =
     ∙ others_apart a c ks s parts.1
 
 seats_for_with : (n : ℕ) (ds : List Deed) (c : List ℕ) (d : Deed) → ((a : List ℕ) → is_change a d ≡ is_same c a)
-    → (m : Held) (ks : List Channel) → AreApart ks → n ≤ m.room → HaveSeatsFor n ds ks
+    → (m : ChannelView) (ks : List Channel) → AreApart ks → n ≤ m.room → HaveSeatsFor n ds ks
     → HaveSeatsFor n (ds ++ d ∷ []) (with_held ks c m)
 seats_for_with n ds c d w m [] a l h = tt
 seats_for_with n ds c d w m (k ∷ ks) a l h = elim (either (is_same k.name c)) [
@@ -209,7 +209,7 @@ keeps_same n ks ls e = λ ds few h. subst (HaveSeats ds) (sym e) h
 pub keeps_more : (n : ℕ) (ks ls ms : List Channel) → KeepsSeats n ks ls → KeepsSeats n ls ms → KeepsSeats n ks ms
 keeps_more n ks ls ms a b = λ ds few h. b ds few (a ds few h)
 
-seats_with : (n : ℕ) (ds : List Deed) (ks : List Channel) (c : List ℕ) (m : Held)
+seats_with : (n : ℕ) (ds : List Deed) (ks : List Channel) (c : List ℕ) (m : ChannelView)
     → ((a : List ℕ) → changes a ds ≤ n) → n ≤ m.room → HaveSeats ds ks → HaveSeats ds (with_held ks c m)
 seats_with n ds [] c m few l h = tt
 seats_with n ds (k ∷ ks) c m few l h = elim (either (is_same k.name c)) [

@@ -6,7 +6,7 @@ use Rattle.std.specs.List.{list_any}
 use Rattle.channel_state.specs.State.{among}
 use Rattle.roster.specs.declared.tables.Channel.{Channel}
 use Rattle.roster.specs.LookBack.{numbers}
-use Rattle.roster.specs.Tables.{members_in, is_mate, mated, mates}
+use Rattle.roster.specs.Tables.{members_in, is_mate, mates_in, mates}
 use Rattle.roster.proofs.Rising.{Rises, rising_same, rises-filter, rises-numbers}
 use Rattle.roster.proofs.Rising.{rises_from, among-filter, among-numbers}
 
@@ -31,10 +31,10 @@ within t n = grind (arith, nat_tests)
 
 -- of numbers that rise and have just those on channels, those of other sessions that were opened
 pub mated_are : (ks : List Channel) (cs : List (List ℕ)) (s n : ℕ) (zs : List ℕ) → Rises 0 zs
-    → ((t : ℕ) → among t zs ≡ list_any (λ c. among t (members_in ks c)) cs) → mated s n zs ≡ mates ks cs s n
+    → ((t : ℕ) → among t zs ≡ list_any (λ c. among t (members_in ks c)) cs) → mates_in s n zs ≡ mates ks cs s n
 mated_are ks cs s n zs r m =
     let on = λ (t : ℕ). list_any (λ c. among t (members_in ks c)) cs in let p = λ (t : ℕ). on t && not (s == t) in
-    rising_same 0 (mated s n zs) (mates ks cs s n) (rises-filter (is_mate s n) 0 zs r)
+    rising_same 0 (mates_in s n zs) (mates ks cs s n) (rises-filter (is_mate s n) 0 zs r)
     (rises_from 0 1 (filter p (numbers 1 n)) (omega arith) (rises-filter p 1 (numbers 1 n) (rises-numbers 1 n)))
     (λ t.
     among-filter t (is_mate s n) zs ∙ ap (λ b. is_mate s n t && b) (m t)

@@ -10,11 +10,12 @@ use Rattle.channel_state.specs.declared.change.Change.{Change}
 use Rattle.channel_state.specs.declared.change.Change.TheVariants.{Joined, RankSet}
 use Rattle.channel_state.specs.declared.change.Change.TheVariants.{Invited}
 use Rattle.channel_state.specs.declared.change.Rank.TheVariants.{Operator, Voice}
-use Rattle.channel_state.specs.State.{State, among, without, is_some_one, nothing, made_by, changed, departed, lasting}
+use Rattle.channel_state.specs.State.{State, among, without, is_some_one, nothing, made_by, with_change, after_gone}
+use Rattle.channel_state.specs.State.{or_nothing}
 use Rattle.roster.specs.declared.deed.Deed.{Deed}
 use Rattle.roster.specs.declared.deed.Deed.TheVariants.{ChannelMade, Changed, Gone}
 use Rattle.roster.specs.LookBack.{state, without_name, with_last_name}
-use Rattle.roster.specs.Lists.{seat_of, noted, renoted}
+use Rattle.roster.specs.Lists.{seat_of, seat_notes, deed_notes}
 use Rattle.roster.specs.Tables.{state_in, holds_name}
 use Rattle.roster.specs.declared.tables.Channel.{Channel}
 use Rattle.std.specs.Option.{option_map_or}
@@ -61,7 +62,7 @@ invited_once : (k : State) (b : Bool) (s : ℕ) → among s (cond b k nothing).i
 invited_once k true s e = e
 invited_once k false s e = absurd (let f : false ≡ true = e in cc)
 
-invited_lasting : (k : State) (s : ℕ) → among s (lasting k).invited ≡ true → among s k.invited ≡ true
+invited_lasting : (k : State) (s : ℕ) → among s (or_nothing k).invited ≡ true → among s k.invited ≡ true
 invited_lasting k s e = invited_once k (is_some_one k.members) s e
 
 not_made : (b : Bool) (t s : ℕ) (k : State) → among s (cond b (made_by t) k).invited ≡ true → among s k.invited ≡ true
@@ -69,8 +70,8 @@ not_made true t s k e = absurd (let f : false ≡ true = e in cc)
 not_made false t s k e = e
 
 noted_new : (x : Change) (s : ℕ) (k : State) (n c : List ℕ) (ns : List (List ℕ)) → is_same n c ≡ true
-    → (among s k.invited ≡ true → holds_name c ns ≡ true) → among s (changed x k).invited ≡ true
-    → holds_name c (noted s n (seat_of x) ns) ≡ true
+    → (among s k.invited ≡ true → holds_name c ns ≡ true) → among s (with_change x k).invited ≡ true
+    → holds_name c (seat_notes s n (seat_of x) ns) ≡ true
 noted_new (Joined t) s k n c ns same h e = h (was_there t s k.invited e)
 noted_new (RankSet t Operator on) s k n c ns same h e = h e
 noted_new (RankSet t Voice on) s k n c ns same h e = h e
@@ -84,7 +85,7 @@ noted_new (Invited t op) s k n c ns same h e = elim (eqb_tells t s) [
 noted_new _ s k n c ns same h e = h e
 
 noted_still : (x : Change) (s : ℕ) (n c : List ℕ) (ns : List (List ℕ)) → holds_name c ns ≡ true
-    → holds_name c (noted s n (seat_of x) ns) ≡ true
+    → holds_name c (seat_notes s n (seat_of x) ns) ≡ true
 noted_still (Invited t op) s n c ns e = elim (t == s) as
     (λ b. holds_name c (cond b (with_last_name n ns) ns) ≡ true) [ true ↦ has_still c n ns e | false ↦ e ]
 noted_still _ s n c ns e = e
@@ -92,20 +93,20 @@ noted_still _ s n c ns e = e
 -- each channel that invites s after a fact is noted then
 pub noted_after : (d : Deed) (fs : List Deed) (s : ℕ) (c : List ℕ) (ns : List (List ℕ))
     → (among s (state fs c).invited ≡ true → holds_name c ns ≡ true) → among s (state (d ∷ fs) c).invited ≡ true
-    → holds_name c (renoted s d ns) ≡ true
+    → holds_name c (deed_notes s d ns) ≡ true
 noted_after (ChannelMade t k) fs s c ns i e = i (not_made (is_same k c) t s (state fs c) e)
 noted_after (Changed k x) fs s c ns i e = elim (either (is_same k c)) [
   | inl same ↦
-      let now : among s (lasting (changed x (state fs c))).invited ≡ true = sym
-      (ap (λ b. among s (cond b (lasting (changed x (state fs c))) (state fs c)).invited) same) ∙ e in
-      noted_new x s (state fs c) k c ns same i (invited_lasting (changed x (state fs c)) s now)
+      let now : among s (or_nothing (with_change x (state fs c))).invited ≡ true = sym
+      (ap (λ b. among s (cond b (or_nothing (with_change x (state fs c))) (state fs c)).invited) same) ∙ e in
+      noted_new x s (state fs c) k c ns same i (invited_lasting (with_change x (state fs c)) s now)
   | inr other ↦
       let was : among s (state fs c).invited ≡ true = sym
-      (ap (λ b. among s (cond b (lasting (changed x (state fs c))) (state fs c)).invited) other) ∙ e in
+      (ap (λ b. among s (cond b (or_nothing (with_change x (state fs c))) (state fs c)).invited) other) ∙ e in
       noted_still x s k c ns (i was)
 ]
 noted_after (Gone t) fs s c ns i e =
-    let kept = invited_lasting (departed t (state fs c)) s e in
+    let kept = invited_lasting (after_gone t (state fs c)) s e in
     elim (eqb_tells t s) [
       | inl same ↦ absurd (let f : false ≡ true = sym (ap (λ b. cond b false (among s (state fs c).invited)) same.0)
           ∙ sym (among-without s t (state fs c).invited) ∙ kept in cc)

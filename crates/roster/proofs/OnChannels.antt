@@ -9,10 +9,10 @@ use Rattle.channel_state.specs.declared.change.Rank.TheVariants.{Operator, Voice
 use Rattle.channel_state.specs.declared.change.Change.{Change}
 use Rattle.channel_state.specs.declared.change.Change.TheVariants.{Joined, Left, RankSet}
 use Rattle.channel_state.specs.State.{State, among, without, with_last, is_some_one, nothing}
-use Rattle.channel_state.specs.State.{made_by, changed, departed, lasting}
+use Rattle.channel_state.specs.State.{made_by, with_change, after_gone, or_nothing}
 use Rattle.roster.specs.declared.deed.Deed.{Deed}
 use Rattle.roster.specs.declared.deed.Deed.TheVariants.{ChannelMade, Changed, Gone}
-use Rattle.roster.specs.LookBack.{tells_seat, on, state, members, reshaped}
+use Rattle.roster.specs.LookBack.{tells_seat, on, state, members, state_after}
 use Rattle.roster.proofs.Bools.{or-true, or-false}
 
 pub among-push : (t s : ℕ) (ts : List ℕ) → among t (ts ++ s ∷ []) ≡ (among t ts || s == t)
@@ -53,7 +53,7 @@ gone : (e : Bool) (t u : ℕ) (ms : List ℕ) → (u == t) ≡ e → among t (wi
 gone true t u ms eq = among-without t u ms ∙ ap (λ x. cond x false (among t ms)) eq
 gone false t u ms eq = among-without t u ms ∙ ap (λ x. cond x false (among t ms)) eq
 
-among-changed : (x : Change) (t : ℕ) (k : State) → among t (changed x k).members
+among-changed : (x : Change) (t : ℕ) (k : State) → among t (with_change x k).members
     ≡ unwrap_or (tells_seat t x) (among t k.members)
 among-changed (Joined u) t k = joined (u == t) t u k.members refl
 among-changed (Left u) t k = gone (u == t) t u k.members refl
@@ -71,12 +71,12 @@ some_or_none : (ms : List ℕ) → cond (is_some_one ms) ms [] ≡ ms
 some_or_none [] = refl
 some_or_none (m ∷ ms) = refl
 
-pub members-lasting : (k : State) → (lasting k).members ≡ k.members
+pub members-lasting : (k : State) → (or_nothing k).members ≡ k.members
 members-lasting k = members_of_none k.members k ∙ some_or_none k.members
 
-changes_to : (b : Bool) (x : Change) (t : ℕ) (k : State) → among t (cond b (lasting (changed x k)) k).members
+changes_to : (b : Bool) (x : Change) (t : ℕ) (k : State) → among t (cond b (or_nothing (with_change x k)) k).members
     ≡ unwrap_or (cond b (tells_seat t x) None) (among t k.members)
-changes_to true x t k = ap (among t) (members-lasting (changed x k)) ∙ among-changed x t k
+changes_to true x t k = ap (among t) (members-lasting (with_change x k)) ∙ among-changed x t k
 changes_to false x t k = refl
 
 -- a session is on a channel exactly where it is among the members
@@ -86,20 +86,20 @@ among-members (ChannelMade u k ∷ fs) t c = made (is_same k c) t u (state fs c)
     ∙ ap (unwrap_or (cond (is_same k c) (Some (u == t)) None)) (among-members fs t c)
 among-members (Changed k x ∷ fs) t c = changes_to (is_same k c) x t (state fs c)
     ∙ ap (unwrap_or (cond (is_same k c) (tells_seat t x) None)) (among-members fs t c)
-among-members (Gone u ∷ fs) t c = ap (among t) (members-lasting (departed u (state fs c))) ∙ gone (u == t) t u
+among-members (Gone u ∷ fs) t c = ap (among t) (members-lasting (after_gone u (state fs c))) ∙ gone (u == t) t u
     (members fs c) refl ∙ ap (unwrap_or (cond (u == t) (Some false) None)) (among-members fs t c)
 among-members (_ ∷ fs) t c = among-members fs t c
 
 -- ---- one name is one channel
 
-reshaped-same : (d : Deed) (c e : List ℕ) (k : State) → is_same c e ≡ true → reshaped d c k ≡ reshaped d e k
+reshaped-same : (d : Deed) (c e : List ℕ) (k : State) → is_same c e ≡ true → state_after d c k ≡ state_after d e k
 reshaped-same (ChannelMade u n) c e k s = ap (λ b. cond b (made_by u) k) (is_same-right c e n s)
-reshaped-same (Changed n x) c e k s = ap (λ b. cond b (lasting (changed x k)) k) (is_same-right c e n s)
+reshaped-same (Changed n x) c e k s = ap (λ b. cond b (or_nothing (with_change x k)) k) (is_same-right c e n s)
 reshaped-same _ c e k s = refl
 
 pub state-same : (fs : List Deed) (c e : List ℕ) → is_same c e ≡ true → state fs c ≡ state fs e
 state-same [] c e s = refl
-state-same (d ∷ fs) c e s = ap (reshaped d c) (state-same fs c e s) ∙ reshaped-same d c e (state fs e) s
+state-same (d ∷ fs) c e s = ap (state_after d c) (state-same fs c e s) ∙ reshaped-same d c e (state fs e) s
 
 -- the same name has the same sessions on it
 pub on-same : (fs : List Deed) (s : ℕ) (c d : List ℕ) → is_same c d ≡ true → on fs s c ≡ on fs s d
@@ -108,27 +108,28 @@ on-same fs s c d e = sym (among-members fs s c) ∙ ap (λ (k : State). among s 
 
 -- ---- a channel lasts while somebody is on it
 
-lasting_once : (ms : List ℕ) (k : State) → k.members ≡ ms → lasting k ≡ cond (is_some_one ms) k nothing
+lasting_once : (ms : List ℕ) (k : State) → k.members ≡ ms → or_nothing k ≡ cond (is_some_one ms) k nothing
 lasting_once ms k e = ap (λ xs. cond (is_some_one xs) k nothing) e
 
-lasting_twice : (ms : List ℕ) (k : State) → k.members ≡ ms → lasting (cond (is_some_one ms) k nothing)
+lasting_twice : (ms : List ℕ) (k : State) → k.members ≡ ms → or_nothing (cond (is_some_one ms) k nothing)
     ≡ cond (is_some_one ms) k nothing
 lasting_twice [] k e = refl
 lasting_twice (m ∷ ms) k e = lasting_once (m ∷ ms) k e
 
-pub lasting-lasting : (k : State) → lasting (lasting k) ≡ lasting k
+pub lasting-lasting : (k : State) → or_nothing (or_nothing k) ≡ or_nothing k
 lasting-lasting k = lasting_twice k.members k refl
 
-lasts_by : (b : Bool) (new k : State) → lasting new ≡ new → lasting k ≡ k → lasting (cond b new k) ≡ cond b new k
+lasts_by : (b : Bool) (new k : State) → or_nothing new ≡ new → or_nothing k ≡ k → or_nothing (cond b new k)
+    ≡ cond b new k
 lasts_by true new k e f = e
 lasts_by false new k e f = f
 
-pub state-lasts : (fs : List Deed) (c : List ℕ) → lasting (state fs c) ≡ state fs c
+pub state-lasts : (fs : List Deed) (c : List ℕ) → or_nothing (state fs c) ≡ state fs c
 state-lasts [] c = refl
 state-lasts (ChannelMade u k ∷ fs) c = lasts_by (is_same k c) (made_by u) (state fs c) refl (state-lasts fs c)
-state-lasts (Changed k x ∷ fs) c = lasts_by (is_same k c) (lasting (changed x (state fs c))) (state fs c)
-    (lasting-lasting (changed x (state fs c))) (state-lasts fs c)
-state-lasts (Gone u ∷ fs) c = lasting-lasting (departed u (state fs c))
+state-lasts (Changed k x ∷ fs) c = lasts_by (is_same k c) (or_nothing (with_change x (state fs c))) (state fs c)
+    (lasting-lasting (with_change x (state fs c))) (state-lasts fs c)
+state-lasts (Gone u ∷ fs) c = lasting-lasting (after_gone u (state fs c))
 state-lasts (_ ∷ fs) c = state-lasts fs c
 
 -- ---- somebody who is among them is somebody

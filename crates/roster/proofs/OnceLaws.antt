@@ -8,11 +8,11 @@ use Rattle.casemapping.specs.Fold.{is_same}
 use Rattle.channel_state.specs.declared.change.Change.{Change}
 use Rattle.channel_state.specs.declared.change.Change.TheVariants.{Joined, Left, RankSet}
 use Rattle.channel_state.specs.declared.change.Rank.TheVariants.{Operator, Voice}
-use Rattle.channel_state.specs.State.{State, among, made_by, changed, departed, lasting}
+use Rattle.channel_state.specs.State.{State, among, made_by, with_change, after_gone, or_nothing}
 use Rattle.roster.specs.declared.deed.Deed.{Deed}
 use Rattle.roster.specs.declared.deed.Deed.TheVariants.{Opened}
 use Rattle.roster.specs.declared.deed.Deed.TheVariants.{ChannelMade, Changed, Gone}
-use Rattle.roster.specs.LookBack.{opened, on, state, members, is_join, joins, with_last_name, share}
+use Rattle.roster.specs.LookBack.{opened_in, on, state, members, is_join, joins, with_last_name, share}
 use Rattle.roster.specs.Legal.{AreLegal}
 use Rattle.roster.specs.Laws.{MembersAreThereOnce, SharersAreThereOnce, OwnChannelsAreThereOnce}
 use Rattle.roster.proofs.Bools.{either}
@@ -78,14 +78,14 @@ module _ {A : Type 0} (e : A → A → Bool) where
 abbrev pub eq : ℕ → ℕ → Bool
 eq s t = s == t
 
-pub once_changed : (x : Change) (k : State) → IsDistinct eq k.members → IsDistinct eq (changed x k).members
+pub once_changed : (x : Change) (k : State) → IsDistinct eq k.members → IsDistinct eq (with_change x k).members
 once_changed (Joined t) k d = distinct-last eq t k.members d
 once_changed (Left t) k d = distinct-filter eq (λ y. not (y == t)) k.members d
 once_changed (RankSet t Operator on) k d = d
 once_changed (RankSet t Voice on) k d = d
 once_changed _ k d = d
 
-once_lasting : (k : State) → IsDistinct eq k.members → IsDistinct eq (lasting k).members
+once_lasting : (k : State) → IsDistinct eq k.members → IsDistinct eq (or_nothing k).members
 once_lasting k d = subst (IsDistinct eq) (sym (members-lasting k)) d
 
 once_by : (b : Bool) (k l : State) → IsDistinct eq k.members → IsDistinct eq l.members
@@ -97,9 +97,9 @@ pub members_once : MembersAreThereOnce
 members_once [] c = distinct-none eq
 members_once (ChannelMade t k ∷ fs) c = once_by (is_same k c) (made_by t) (state fs c) (distinct-one eq t)
     (members_once fs c)
-members_once (Changed k x ∷ fs) c = once_by (is_same k c) (lasting (changed x (state fs c))) (state fs c)
-    (once_lasting (changed x (state fs c)) (once_changed x (state fs c) (members_once fs c))) (members_once fs c)
-members_once (Gone t ∷ fs) c = once_lasting (departed t (state fs c))
+members_once (Changed k x ∷ fs) c = once_by (is_same k c) (or_nothing (with_change x (state fs c))) (state fs c)
+    (once_lasting (with_change x (state fs c)) (once_changed x (state fs c) (members_once fs c))) (members_once fs c)
+members_once (Gone t ∷ fs) c = once_lasting (after_gone t (state fs c))
     (distinct-filter eq (λ y. not (y == t)) (members fs c) (members_once fs c))
 members_once (_ ∷ fs) c = members_once fs c
 
@@ -133,21 +133,22 @@ below-apart : (n z : ℕ) (xs : List ℕ) → n < z → AllByRecursion (λ y. y 
 below-apart n z [] l a = tt
 below-apart n z (x ∷ xs) l a = (ne_eqb x z (let h = a.0 in omega arith), below-apart n z xs l a.1)
 
-opened_below : (fs : List Deed) → AreLegal fs → AllByRecursion (λ y. y ≤ length (opened fs)) (opened fs)
+opened_below : (fs : List Deed) → AreLegal fs → AllByRecursion (λ y. y ≤ length (opened_in fs)) (opened_in fs)
 opened_below [] l = tt
 opened_below (Opened t h ∷ fs) l =
-    let n = length (opened fs) in
-    let more : length (opened fs ++ t ∷ []) ≡ n + 1 = length-append (opened fs) (t ∷ []) in let is : t ≡ suc n = l.0 in
-    below-push (length (opened fs ++ t ∷ [])) (opened fs) t
-    (below-more n (length (opened fs ++ t ∷ [])) (opened fs) (omega arith) (opened_below fs l.1)) (omega arith)
+    let n = length (opened_in fs) in
+    let more : length (opened_in fs ++ t ∷ []) ≡ n + 1 = length-append (opened_in fs) (t ∷ []) in let is : t
+    ≡ suc n = l.0 in
+    below-push (length (opened_in fs ++ t ∷ [])) (opened_in fs) t
+    (below-more n (length (opened_in fs ++ t ∷ [])) (opened_in fs) (omega arith) (opened_below fs l.1)) (omega arith)
 opened_below (_ ∷ fs) l = opened_below fs l.1
 
-opened_once : (fs : List Deed) → AreLegal fs → IsDistinct eq (opened fs)
+opened_once : (fs : List Deed) → AreLegal fs → IsDistinct eq (opened_in fs)
 opened_once [] l = distinct-none eq
 opened_once (Opened t h ∷ fs) l =
-    let is : t ≡ suc (length (opened fs)) = l.0 in
-    distinct-push eq t (opened fs) (opened_once fs l.1)
-    (below-apart (length (opened fs)) t (opened fs) (omega arith) (opened_below fs l.1))
+    let is : t ≡ suc (length (opened_in fs)) = l.0 in
+    distinct-push eq t (opened_in fs) (opened_once fs l.1)
+    (below-apart (length (opened_in fs)) t (opened_in fs) (omega arith) (opened_below fs l.1))
 opened_once (_ ∷ fs) l = opened_once fs l.1
 
 -- whoever fails the test isn't among those who pass it
@@ -167,6 +168,6 @@ not_self false s = refl
 
 pub sharers_once : SharersAreThereOnce
 sharers_once fs s l = (
-  distinct-filter eq (λ t. share fs s t && not (s == t)) (opened fs) (opened_once fs l),
-  not_among (λ t. share fs s t && not (s == t)) s (not_self (share fs s s) s) (opened fs),
+  distinct-filter eq (λ t. share fs s t && not (s == t)) (opened_in fs) (opened_once fs l),
+  not_among (λ t. share fs s t && not (s == t)) s (not_self (share fs s s) s) (opened_in fs),
 )

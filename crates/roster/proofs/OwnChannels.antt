@@ -11,7 +11,7 @@ use Rattle.channel_state.specs.State.{State, among}
 use Rattle.roster.specs.declared.deed.Deed.{Deed}
 use Rattle.roster.specs.declared.deed.Deed.TheVariants.{ChannelMade, Changed, Gone}
 use Rattle.roster.specs.declared.tables.Channel.{Channel}
-use Rattle.roster.specs.LookBack.{numbers, opened, on, members, has_member, channels, tells_seat, is_join, joins}
+use Rattle.roster.specs.LookBack.{numbers, opened_in, on, members, has_member, channels, tells_seat, is_join, joins}
 use Rattle.roster.specs.LookBack.{channels_on, channel_count, without_name, with_last_name, share, sharers}
 use Rattle.roster.specs.Tables.{name_in, names_of, members_in, mates}
 use Rattle.roster.specs.Stands.{AreApart, HoldChannels}
@@ -173,7 +173,7 @@ module _ (ks : List Channel) (fs : List Deed) (i : HoldChannels ks fs) where
   any_as p q h [] = refl
   any_as p q h (x ∷ xs) = ap (λ b. b || list_any p xs) (h x) ∙ ap (λ b. q x || b) (any_as p q h xs)
 
-  pub sharers_are : (s n : ℕ) → opened fs ≡ numbers 1 n → mates ks (channels_on fs s) s n ≡ sharers fs s
+  pub sharers_are : (s n : ℕ) → opened_in fs ≡ numbers 1 n → mates ks (channels_on fs s) s n ≡ sharers fs s
   sharers_are s n e =
       let mine = λ (t : ℕ). list_any (λ c. among t (members_in ks c)) (channels_on fs s) in
       let is : (t : ℕ) → mine t ≡ share fs s t = λ t. any_as (λ c. among t (members_in ks c)) (on fs t) (λ c. ap

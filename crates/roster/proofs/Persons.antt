@@ -5,7 +5,7 @@ use Rattle.std.proofs.Common.{nat_le, nat_lt, List, [], ◌∷◌, ◌++◌, len
 use Rattle.std.proofs.Common.{arith, refl, sym, ap, ◌∙◌, subst, ne_eqb, eq-eqb, length-append}
 use Rattle.std.specs.Str.{bytes_eq}
 use Rattle.std.specs.List.{find}
-use Rattle.casemapping.specs.Fold.{folded, is_same}
+use Rattle.casemapping.specs.Fold.{name_fold, is_same}
 use Rattle.casemapping.proofs.SameNames.{is_same-refl, is_same-true}
 use Rattle.channel_state.specs.State.{among}
 use Rattle.roster.specs.declared.deed.Deed.{Deed}
@@ -13,8 +13,8 @@ use Rattle.roster.specs.declared.deed.Deed.TheVariants.{Opened, NickSet, UserSet
 use Rattle.roster.specs.declared.deed.Deed.TheVariants.{ExchangeSet, LoggedIn, Enrolled, AwaySet}
 use Rattle.roster.specs.declared.deed.Deed.TheVariants.{InvisibleSet, ChannelMade, Changed, Ended, Gone}
 use Rattle.roster.specs.Legal.{IsOpened, IsFree, IsNext}
-use Rattle.roster.specs.LookBack.{numbers, opened, nick, is_named, holder}
-use Rattle.roster.specs.Tables.{heard, is_about, is_plain, is_opening, held_by, is_freed, Frees, IsOf}
+use Rattle.roster.specs.LookBack.{numbers, opened_in, nick, is_named, holder}
+use Rattle.roster.specs.Tables.{after_deed, is_about, is_plain, is_opening, held_by, is_freed, Frees, IsOf}
 use Rattle.roster.specs.Stands.{person, AreHolders}
 use Rattle.roster.proofs.Bools.{either}
 use Rattle.roster.proofs.Keyed.{same_is}
@@ -35,7 +35,7 @@ length-numbers k (suc n) = ap suc (length-numbers (k + 1) n)
 
 -- what is known of a session after a fact
 pub person_after : (d : Deed) (fs : List Deed) (s : ℕ) → person (d ∷ fs) s
-    ≡ cond (is_about s d) (heard d (person fs s)) (person fs s)
+    ≡ cond (is_about s d) (after_deed d (person fs s)) (person fs s)
 person_after (Opened u h) fs s = elim (eqb_tells u s) [ inl same ↦ rw same.0 refl | inr other ↦ rw other.0 refl ]
 person_after (NickSet u n) fs s = elim (eqb_tells u s) [ inl same ↦ rw same.0 refl | inr other ↦ rw other.0 refl ]
 person_after (UserSet u n r) fs s = elim (eqb_tells u s) [ inl same ↦ rw same.0 refl | inr other ↦ rw other.0 refl ]
@@ -52,8 +52,8 @@ person_after (Ended u w x) fs s = elim (eqb_tells u s) [ inl same ↦ rw same.0 
 person_after (Gone u) fs s = elim (eqb_tells u s) [ inl same ↦ rw same.0 refl | inr other ↦ rw other.0 refl ]
 
 -- the sessions that were opened
-pub opened_after : (d : Deed) (fs : List Deed) (n m : ℕ) → opened fs ≡ numbers 1 n → IsNext fs d
-    → m ≡ n + cond (is_opening d) 1 0 → opened (d ∷ fs) ≡ numbers 1 m
+pub opened_after : (d : Deed) (fs : List Deed) (n m : ℕ) → opened_in fs ≡ numbers 1 n → IsNext fs d
+    → m ≡ n + cond (is_opening d) 1 0 → opened_in (d ∷ fs) ≡ numbers 1 m
 opened_after (Opened u h) fs n m e x c =
     let many = ap length e ∙ length-numbers 1 n in
     let last : u ≡ 1 + n = (let y = x in omega arith) in let more : m ≡ suc n = omega arith in
@@ -62,7 +62,7 @@ opened_after (Opened u h) fs n m e x c =
 opened_after _ fs n m e x c = let same : n ≡ m = omega arith in e ∙ ap (numbers 1) same
 
 -- a fact that tells why a session ended tells it of one that was opened
-pub of_next : (d : Deed) (fs : List Deed) (n : ℕ) → opened fs ≡ numbers 1 n → IsNext fs d → IsOf n d
+pub of_next : (d : Deed) (fs : List Deed) (n : ℕ) → opened_in fs ≡ numbers 1 n → IsNext fs d → IsOf n d
 of_next (Opened u h) fs n e x = let many = ap length e ∙ length-numbers 1 n in x ∙ ap suc many
 of_next (Ended u w z) fs n e x = let many = ap length e ∙ length-numbers 1 n in (x.0, (let to = x.1 in omega arith))
 of_next (Gone u) fs n e x = let many = ap length e ∙ length-numbers 1 n in (x.0, (let to = x.1 in omega arith))
@@ -70,7 +70,8 @@ of_next _ fs n e x = tt
 
 -- who was opened still is
 pub still_opened : (d : Deed) (fs : List Deed) (s : ℕ) → IsOpened fs s → IsOpened (d ∷ fs) s
-still_opened (Opened u h) fs s o = (o.0, (let e = length-append (opened fs) (u ∷ []) in let to = o.1 in omega arith))
+still_opened (Opened u h) fs s o =
+    (o.0, (let e = length-append (opened_in fs) (u ∷ []) in let to = o.1 in omega arith))
 still_opened _ fs s o = o
 
 -- a plain fact that opens no session leaves nicknames
@@ -105,27 +106,27 @@ some_is x y e = cc
 
 module _ (hs : List (List ℕ × ℕ)) (fs : List Deed) (i : AreHolders hs fs) where
   -- the index has the session that a look-back finds
-  pub holder_is : (n m : ℕ) (k : List ℕ) → m ≡ n → opened fs ≡ numbers 1 n → held_by hs (folded k) ≡ holder fs k
-  holder_is n m k same e = by (held_by hs (folded k)) refl
+  pub holder_is : (n m : ℕ) (k : List ℕ) → m ≡ n → opened_in fs ≡ numbers 1 n → held_by hs (name_fold k) ≡ holder fs k
+  holder_is n m k same e = by (held_by hs (name_fold k)) refl
     where
-      by : (o : Option ℕ) → held_by hs (folded k) ≡ o → o ≡ holder fs k
+      by : (o : Option ℕ) → held_by hs (name_fold k) ≡ o → o ≡ holder fs k
       by (Some s) at =
           let is = i.named s k at in
           let o = i.opened s k is in let from = o.0 in let to = o.1 in let many = ap length e ∙ length-numbers 1 n in
           let low : nat_le 1 s ≡ true = grind (arith, nat_tests) in
           let high : nat_lt s (1 + n) ≡ true = grind (arith, nat_tests) in
-          let has : among s (opened fs) ≡ true = ap (among s) e ∙ among-numbers s 1 n ∙ rw (low, high) refl in
-          sym (find_only (λ t. is_named (nick fs t) k) (opened fs) s is has
+          let has : among s (opened_in fs) ≡ true = ap (among s) e ∙ among-numbers s 1 n ∙ rw (low, high) refl in
+          sym (find_only (λ t. is_named (nick fs t) k) (opened_in fs) s is has
           (λ t it. some_is t s (sym (i.found t k it) ∙ at)))
       by None at =
-          sym (find_nobody (λ t. is_named (nick fs t) k) (opened fs) (λ t. elim (either (is_named (nick fs t) k)) [
+          sym (find_nobody (λ t. is_named (nick fs t) k) (opened_in fs) (λ t. elim (either (is_named (nick fs t) k)) [
             | inl it ↦ absurd (let f : Some t ≡ None = sym (i.found t k it) ∙ at in cc)
             | inr miss ↦ miss
           ]))
 
   -- nobody else has a nickname that is free
-  alone : (n t s : ℕ) (k m : List ℕ) → opened fs ≡ numbers 1 n → IsFree fs t k → is_same k m ≡ true
-      → held_by hs (folded m) ≡ Some s → s ≡ t
+  alone : (n t s : ℕ) (k m : List ℕ) → opened_in fs ≡ numbers 1 n → IsFree fs t k → is_same k m ≡ true
+      → held_by hs (name_fold m) ≡ Some s → s ≡ t
   alone n t s k m e free same at = free s (sym (holder_is n n k refl e) ∙ ap (held_by hs) (is_same-true k m same) ∙ at)
 
   -- who wasn't opened has none
@@ -177,31 +178,33 @@ module _ (hs : List (List ℕ × ℕ)) (fs : List Deed) (i : AreHolders hs fs) w
 
   module _ (mid : List (List ℕ × ℕ)) (t : ℕ) (f : Frees hs mid (nick fs t)) where
     -- what it was is freed, and nothing else
-    freed_is : (m : List ℕ) → is_freed (nick fs t) (folded m) ≡ is_named (nick fs t) m
+    freed_is : (m : List ℕ) → is_freed (nick fs t) (name_fold m) ≡ is_named (nick fs t) m
     freed_is m = by (nick fs t)
       where
-        by : (o : Option (List ℕ)) → is_freed o (folded m) ≡ is_named o m
+        by : (o : Option (List ℕ)) → is_freed o (name_fold m) ≡ is_named o m
         by None = refl
         by (Some n) = sym (same_is n m)
 
-    given_back : (m : List ℕ) → held_by mid (folded m) ≡ cond (is_named (nick fs t) m) None (held_by hs (folded m))
-    given_back m = f (folded m) ∙ ap (λ b. cond b None (held_by hs (folded m))) (freed_is m)
+    given_back : (m : List ℕ) → held_by mid (name_fold m)
+        ≡ cond (is_named (nick fs t) m) None (held_by hs (name_fold m))
+    given_back m = f (name_fold m) ∙ ap (λ b. cond b None (held_by hs (name_fold m))) (freed_is m)
 
     -- others keep theirs
-    pub others_found : (s : ℕ) (m : List ℕ) → t ≢ s → is_named (nick fs s) m ≡ true → held_by mid (folded m) ≡ Some s
+    pub others_found : (s : ℕ) (m : List ℕ) → t ≢ s → is_named (nick fs s) m ≡ true → held_by mid (name_fold m)
+        ≡ Some s
     others_found s m ne is = elim (either (is_named (nick fs t) m)) [
       | inl it ↦ absurd (ne (some_is t s (sym (i.found t m it) ∙ i.found s m is)))
-      | inr miss ↦ given_back m ∙ ap (λ b. cond b None (held_by hs (folded m))) miss ∙ i.found s m is
+      | inr miss ↦ given_back m ∙ ap (λ b. cond b None (held_by hs (name_fold m))) miss ∙ i.found s m is
     ]
 
     -- whoever is found has it, and is another
-    pub others_named : (s : ℕ) (m : List ℕ) → held_by mid (folded m) ≡ Some s
+    pub others_named : (s : ℕ) (m : List ℕ) → held_by mid (name_fold m) ≡ Some s
         → (is_named (nick fs s) m ≡ true) × (t ≢ s)
     others_named s m at = elim (either (is_named (nick fs t) m)) [
       | inl it ↦ absurd
-          (let g : None ≡ Some s = sym (given_back m ∙ ap (λ b. cond b None (held_by hs (folded m))) it) ∙ at in cc)
+          (let g : None ≡ Some s = sym (given_back m ∙ ap (λ b. cond b None (held_by hs (name_fold m))) it) ∙ at in cc)
       | inr miss ↦
-          let was = sym (given_back m ∙ ap (λ b. cond b None (held_by hs (folded m))) miss) ∙ at in
+          let was = sym (given_back m ∙ ap (λ b. cond b None (held_by hs (name_fold m))) miss) ∙ at in
           let is = i.named s m was in
           (is, λ e. absurd (let g : false ≡ true = sym miss ∙ ap (λ (u : ℕ). is_named (nick fs u) m) e ∙ is in cc))
     ]
@@ -225,34 +228,35 @@ module _ (hs : List (List ℕ × ℕ)) (fs : List Deed) (i : AreHolders hs fs) w
     }
 
     -- and another taken
-    pub holders_renamed : (now : List (List ℕ × ℕ)) (n : ℕ) (k : List ℕ) → opened fs ≡ numbers 1 n → IsOpened fs t
+    pub holders_renamed : (now : List (List ℕ × ℕ)) (n : ℕ) (k : List ℕ) → opened_in fs ≡ numbers 1 n → IsOpened fs t
         → IsFree fs t k
-        → ((j : List ℕ) → held_by now j ≡ cond (bytes_eq (folded k) j) (Some t) (held_by mid j))
+        → ((j : List ℕ) → held_by now j ≡ cond (bytes_eq (name_fold k) j) (Some t) (held_by mid j))
         → AreHolders now (NickSet t k ∷ fs)
     holders_renamed now n k e o free took =
-        let taken : (m : List ℕ) → held_by now (folded m) ≡ cond (is_same k m) (Some t) (held_by mid (folded m)) =
-        λ m. took (folded m) ∙ ap (λ b. cond b (Some t) (held_by mid (folded m))) (sym (same_is k m)) in
+        let taken : (m : List ℕ) → held_by now (name_fold m)
+        ≡ cond (is_same k m) (Some t) (held_by mid (name_fold m)) =
+        λ m. took (name_fold m) ∙ ap (λ b. cond b (Some t) (held_by mid (name_fold m))) (sym (same_is k m)) in
         let own : (s : ℕ) (m : List ℕ) → t ≡ s → is_named (nick (NickSet t k ∷ fs) s) m ≡ is_same k m = λ s m it. ap
         (λ b. is_named (unwrap_or (cond b (Some (Some k)) None) (nick fs s)) m) (eq-eqb t s it) in
         let other : (s : ℕ) (m : List ℕ) → t ≢ s → is_named (nick (NickSet t k ∷ fs) s) m ≡ is_named (nick fs s) m =
         λ s m ne. ap (λ b. is_named (unwrap_or (cond b (Some (Some k)) None) (nick fs s)) m) (ne_eqb t s ne) in
         record {
           found = λ s m is. elim (eqb_tells t s) [
-            | inl same ↦ taken m ∙ ap (λ b. cond b (Some t) (held_by mid (folded m))) (sym (own s m same.1) ∙ is)
+            | inl same ↦ taken m ∙ ap (λ b. cond b (Some t) (held_by mid (name_fold m))) (sym (own s m same.1) ∙ is)
                 ∙ ap (λ (u : ℕ). Some u) same.1
             | inr away ↦
                 let was = sym (other s m away.1) ∙ is in
                 elim (either (is_same k m)) [
                   | inl it ↦ absurd (away.1 (sym (alone n t s k m e free it (i.found s m was))))
-                  | inr miss ↦ taken m ∙ ap (λ b. cond b (Some t) (held_by mid (folded m))) miss
+                  | inr miss ↦ taken m ∙ ap (λ b. cond b (Some t) (held_by mid (name_fold m))) miss
                       ∙ others_found s m away.1 was
                 ]
           ];
           named = λ s m at. elim (either (is_same k m)) [
             | inl it ↦ own s m
-                (some_is t s (sym (taken m ∙ ap (λ b. cond b (Some t) (held_by mid (folded m))) it) ∙ at)) ∙ it
+                (some_is t s (sym (taken m ∙ ap (λ b. cond b (Some t) (held_by mid (name_fold m))) it) ∙ at)) ∙ it
             | inr miss ↦ let o' = others_named s m
-                (sym (taken m ∙ ap (λ b. cond b (Some t) (held_by mid (folded m))) miss) ∙ at) in
+                (sym (taken m ∙ ap (λ b. cond b (Some t) (held_by mid (name_fold m))) miss) ∙ at) in
                 other s m o'.1 ∙ o'.0
           ];
           opened = λ s m is. elim (eqb_tells t s) [

@@ -6,9 +6,9 @@ use Rattle.std.specs.List.{list_any, remove}
 use Rattle.std.specs.Map.{values_of}
 use Rattle.casemapping.specs.Fold.{is_same}
 use Rattle.casemapping.proofs.SameNames.{is_same-right}
-use Rattle.channel_state.specs.Held.{Held}
+use Rattle.channel_state.specs.Held.{ChannelView}
 use Rattle.roster.specs.declared.tables.Channel.{Channel}
-use Rattle.roster.specs.Tables.{channel_of, with_held, populated, AreKeyed}
+use Rattle.roster.specs.Tables.{channel_of, with_held, with_someone, AreKeyed}
 use Rattle.roster.specs.Stands.{AreApart, AreHeldBut}
 use Rattle.roster.proofs.Bools.{either, or-none}
 use Rattle.roster.proofs.Keyed.{held_as, all_populated}
@@ -39,7 +39,7 @@ missed : (k c : List ℕ) (ks : List Channel) (i : ℕ) (x : Channel) → list_a
 missed k c ks i x n e same = sym (is_same-right x.name c k same) ∙ none_at k ks i x n e
 
 -- what is written at its place is written at its name
-pub set_at_place : (ks : List Channel) (i : ℕ) (c : List ℕ) (x : Channel) (h : Held) → AreApart ks
+pub set_at_place : (ks : List Channel) (i : ℕ) (c : List ℕ) (x : Channel) (h : ChannelView) → AreApart ks
     → slice_get ks i ≡ Some x → is_same x.name c ≡ true → slice_set ks i (held_as x h) ≡ with_held ks c h
 set_at_place [] i c x h a e same = absurd (let f : ◌≡◌ {A = Option Channel} None (Some x) = e in cc)
 set_at_place (k ∷ ks) zero c x h a e same =
@@ -53,17 +53,17 @@ set_at_place (k ∷ ks) (suc i) c x h a e same =
 -- the one that nobody is on is taken out at its place
 pub removed_at_place : (es : List (List ℕ × Channel)) (i : ℕ) (c : List ℕ) (x : Channel) → AreApart (values_of es)
     → slice_get (values_of es) i ≡ Some x → is_same x.name c ≡ true → AreHeldBut c (values_of es)
-    → values_of (remove es i) ≡ populated (values_of es)
+    → values_of (remove es i) ≡ with_someone (values_of es)
 removed_at_place [] i c x a e same b = absurd (let f : ◌≡◌ {A = Option Channel} None (Some x) = e in cc)
 removed_at_place (k ∷ es) zero c x a e same b =
     let f : Some k.1 ≡ Some x = e in let g : k.1 ≡ x = cc in
     let p = b.0 (ap (λ (y : Channel). is_same y.name c) g ∙ same) in
     sym (all_populated (values_of es) p.1)
-    ∙ sym (ap (λ q. cond q (k.1 ∷ populated (values_of es)) (populated (values_of es))) p.0)
+    ∙ sym (ap (λ q. cond q (k.1 ∷ with_someone (values_of es)) (with_someone (values_of es))) p.0)
 removed_at_place (k ∷ es) (suc i) c x a e same b =
     let p = b.1 (missed k.1.name c (values_of es) i x a.0 e same) in
     ap (λ ls. k.1 ∷ ls) (removed_at_place es i c x a.1 e same p.1)
-    ∙ sym (ap (λ q. cond q (k.1 ∷ populated (values_of es)) (populated (values_of es))) p.0)
+    ∙ sym (ap (λ q. cond q (k.1 ∷ with_someone (values_of es)) (with_someone (values_of es))) p.0)
 
 -- each other is still under its folded name
 pub keyed_removed_at : (es : List (List ℕ × Channel)) (i : ℕ) → AreKeyed es → AreKeyed (remove es i)
@@ -115,7 +115,7 @@ at_place (k ∷ ks) (suc i) x l e = at_place ks i x (omega arith) e
 -- ---- the place, when it is written
 
 -- what was written is at the place
-pub at_place_with : (ks : List Channel) (i : ℕ) (c : List ℕ) (x : Channel) (h : Held) → AreApart ks
+pub at_place_with : (ks : List Channel) (i : ℕ) (c : List ℕ) (x : Channel) (h : ChannelView) → AreApart ks
     → slice_get ks i ≡ Some x → is_same x.name c ≡ true → slice_get (with_held ks c h) i ≡ Some (held_as x h)
 at_place_with ks i c x h a e same = ap (λ (ls : List Channel). slice_get ls i)
     (sym (set_at_place ks i c x h a e same)) ∙ get_set ks i x (held_as x h) e

@@ -22,9 +22,10 @@ use Rattle.roster.specs.Legal.{IsNext, AreNext}
 use Rattle.roster.specs.declared.tables.Card.{Card}
 use Rattle.roster.specs.declared.tables.Channel.{Channel}
 use Rattle.channel_state.specs.State.{State, among}
-use Rattle.roster.specs.declared.lists.Seat.{Seat}
+use Rattle.roster.specs.declared.channel_lists.ListChange.{ListChange}
 use Rattle.roster.specs.Tables.{is_plain, state_in, holds_name}
-use Rattle.roster.specs.Lists.{row_of, seat_of, is_taken, reseated, noted, relisted, renoted, is_joining, joinings}
+use Rattle.roster.specs.Lists.{row_of, seat_of, is_taken, seat_list, seat_notes, deed_list, deed_notes, is_joining}
+use Rattle.roster.specs.Lists.{joinings}
 use Rattle.roster.specs.Lists.{made_name, keyed_name, Relists, Widens, Refits, BeginWith, AreListed}
 use Rattle.roster.proofs.Bools.{either, or-none, or-false}
 use Rattle.roster.proofs.OnChannels.{among-members, on-same, someone}
@@ -136,7 +137,7 @@ made_by_other fs t s k none other c = elim (either (is_same k c)) [
 ]
 
 after_making : (fs : List Deed) (t s : ℕ) (k : List ℕ) → has_member fs k ≡ false
-    → channels_on (ChannelMade t k ∷ fs) s ≡ relisted s (ChannelMade t k) (channels_on fs s)
+    → channels_on (ChannelMade t k ∷ fs) s ≡ deed_list s (ChannelMade t k) (channels_on fs s)
 after_making fs t s k none = let now = on (ChannelMade t k ∷ fs) s in elim (eqb_tells t s) [
   | inl same ↦
       ap (λ b. filter now (cond b (with_last_name k (joins fs s)) (joins fs s))) same.0
@@ -156,7 +157,7 @@ untold fs k s x e = filter_as (on fs s) (on (Changed k x ∷ fs) s) (λ c. ap
     (λ o. unwrap_or (cond (is_same k c) o None) (on fs s c)) e ∙ told_none (on fs s c) (is_same k c)) (joins fs s)
 
 after_join : (fs : List Deed) (t s : ℕ) (k : List ℕ) → channels_on (Changed k (Joined t) ∷ fs) s
-    ≡ relisted s (Changed k (Joined t)) (channels_on fs s)
+    ≡ deed_list s (Changed k (Joined t)) (channels_on fs s)
 after_join fs t s k = let now = on (Changed k (Joined t) ∷ fs) s in elim (eqb_tells t s) [
   | inl same ↦
       let told : tells_seat s (Joined t) ≡ Some true = ap (λ b. cond b (Some true) None) same.0 in
@@ -172,7 +173,7 @@ after_join fs t s k = let now = on (Changed k (Joined t) ∷ fs) s in elim (eqb_
 ]
 
 after_leaving : (fs : List Deed) (t s : ℕ) (k : List ℕ) → channels_on (Changed k (Left t) ∷ fs) s
-    ≡ relisted s (Changed k (Left t)) (channels_on fs s)
+    ≡ deed_list s (Changed k (Left t)) (channels_on fs s)
 after_leaving fs t s k = let now = on (Changed k (Left t) ∷ fs) s in elim (eqb_tells t s) [
   | inl same ↦
       let told : tells_seat s (Left t) ≡ Some false = ap (λ b. cond b (Some false) None) same.0 in
@@ -186,7 +187,7 @@ after_leaving fs t s k = let now = on (Changed k (Left t) ∷ fs) s in elim (eqb
 ]
 
 after_change : (fs : List Deed) (s : ℕ) (k : List ℕ) (x : Change) → channels_on (Changed k x ∷ fs) s
-    ≡ relisted s (Changed k x) (channels_on fs s)
+    ≡ deed_list s (Changed k x) (channels_on fs s)
 after_change fs s k (Joined t) = after_join fs t s k
 after_change fs s k (Left t) = after_leaving fs t s k
 after_change fs s k (RankSet t rank is) = untold fs k s (RankSet t rank is) refl
@@ -198,7 +199,7 @@ after_change fs s k (BanSet x) = untold fs k s (BanSet x) refl
 after_change fs s k (BanLifted x) = untold fs k s (BanLifted x) refl
 after_change fs s k (Invited t x) = untold fs k s (Invited t x) refl
 
-after_going : (fs : List Deed) (t s : ℕ) → channels_on (Gone t ∷ fs) s ≡ relisted s (Gone t) (channels_on fs s)
+after_going : (fs : List Deed) (t s : ℕ) → channels_on (Gone t ∷ fs) s ≡ deed_list s (Gone t) (channels_on fs s)
 after_going fs t s = elim (eqb_tells t s) [
   | inl same ↦
       filter_none (on (Gone t ∷ fs) s) (λ c. ap (λ b. unwrap_or (cond b (Some false) None) (on fs s c)) same.0)
@@ -212,7 +213,7 @@ after_going fs t s = elim (eqb_tells t s) [
 
 -- the channels of a session after each fact that may come
 pub channels_after : (fs : List Deed) (s : ℕ) (d : Deed) → IsNext fs d → channels_on (d ∷ fs) s
-    ≡ relisted s d (channels_on fs s)
+    ≡ deed_list s d (channels_on fs s)
 channels_after fs s (ChannelMade t k) n = after_making fs t s k n
 channels_after fs s (Changed k x) n = after_change fs s k x
 channels_after fs s (Gone t) n = after_going fs t s
@@ -225,10 +226,10 @@ pub joinings-cons : (s : ℕ) (d : Deed) (ds : List Deed) → joinings s (d ∷ 
 joinings-cons s d ds = sum_by-cons (λ (e : Deed). cond (is_joining s e) 1 0) d ds
 
 listed : (fs ds : List Deed) (d : Deed) (rs qs : List (ℕ × Card)) (copies left : List (List ℕ)) → IsNext fs d
-    → AreListed rs copies fs (d ∷ ds) → Relists rs qs (λ s. relisted s d) (λ s. renoted s d) (λ s. is_joining s d)
+    → AreListed rs copies fs (d ∷ ds) → Relists rs qs (λ s. deed_list s d) (λ s. deed_notes s d) (λ s. is_joining s d)
     → BeginWith (flat_map made_name ds) left → AreListed qs left (d ∷ fs) ds
 listed fs ds d rs qs copies left n i r b = record {
-  lists = λ s. r.lists s ∙ ap (relisted s d) (i.lists s) ∙ sym (channels_after fs s d n);
+  lists = λ s. r.lists s ∙ ap (deed_list s d) (i.lists s) ∙ sym (channels_after fs s d n);
   noted = λ s c e. ap (holds_name c) (r.notes s) ∙ noted_after d fs s c (row_of rs s).notes (i.noted s c) e;
   room = λ s. let had = i.room s in let less = r.rooms s in let e = joinings-cons s d ds in omega arith;
   copies = b;
@@ -249,7 +250,7 @@ module _ (d e : Deed) (is : d ≡ e) (fs ds : List Deed) (first : slice_get ds 0
 
   -- and after it
   pub listed_after : (qs : List (ℕ × Card)) (left : List (List ℕ)) (gs es : List Deed) → AreNext fs ds
-      → AreListed rs copies fs ds → Relists rs qs (λ s. relisted s e) (λ s. renoted s e) (λ s. is_joining s e)
+      → AreListed rs copies fs ds → Relists rs qs (λ s. deed_list s e) (λ s. deed_notes s e) (λ s. is_joining s e)
       → BeginWith (flat_map made_name (drop 1 ds)) left → gs ≡ d ∷ fs → es ≡ drop 1 ds → AreListed qs left gs es
   listed_after qs left gs es n i r b eg ee =
       subst (λ (xs : List Deed). AreListed qs left xs es) (sym (eg ∙ ap (λ x. x ∷ fs) is))
@@ -286,12 +287,14 @@ pub begin_same : (cs : List (List ℕ)) → BeginWith cs cs
 begin_same [] = tt
 begin_same (c ∷ cs) = (refl, begin_same cs)
 
-pub reseats : (rs qs : List (ℕ × Card)) (n m : List ℕ) (x : Change) (z : Seat) → n ≡ m
-    → z ≡ seat_of x → Relists rs qs (λ s. reseated s m z) (λ s. noted s m z) (λ s. is_taken s z)
-    → Relists rs qs (λ s. relisted s (Changed n x)) (λ s. renoted s (Changed n x)) (λ s. is_joining s (Changed n x))
+pub reseats : (rs qs : List (ℕ × Card)) (n m : List ℕ) (x : Change) (z : ListChange) → n ≡ m
+    → z ≡ seat_of x → Relists rs qs (λ s. seat_list s m z) (λ s. seat_notes s m z) (λ s. is_taken s z)
+    → Relists rs qs (λ s. deed_list s (Changed n x)) (λ s. deed_notes s (Changed n x))
+    (λ s. is_joining s (Changed n x))
 reseats rs qs n m x z en ez r =
-    subst (λ (y : Seat). Relists rs qs (λ s. reseated s n y) (λ s. noted s n y) (λ s. is_taken s y)) ez (subst
-    (λ (k : List ℕ). Relists rs qs (λ s. reseated s k z) (λ s. noted s k z) (λ s. is_taken s z)) (sym en) r)
+    subst (λ (y : ListChange). Relists rs qs (λ s. seat_list s n y) (λ s. seat_notes s n y) (λ s. is_taken s y)) ez
+    (subst
+    (λ (k : List ℕ). Relists rs qs (λ s. seat_list s k z) (λ s. seat_notes s k z) (λ s. is_taken s z)) (sym en) r)
 
 -- it is ready for nothing
 pub listed_idle : (rs : List (ℕ × Card)) (copies : List (List ℕ)) (fs ds : List Deed) → AreListed rs copies fs ds
@@ -333,14 +336,14 @@ listed_ended rs qs ns fs ds t w x i v = record {
 }
 
 -- a plain fact says nothing of channels
-plain_relisted : (d : Deed) → is_plain d ≡ true → (s : ℕ) (cs : List (List ℕ)) → relisted s d cs ≡ cs
+plain_relisted : (d : Deed) → is_plain d ≡ true → (s : ℕ) (cs : List (List ℕ)) → deed_list s d cs ≡ cs
 plain_relisted (NickSet u n) p s cs = absurd (let f : false ≡ true = p in cc)
 plain_relisted (ChannelMade u k) p s cs = absurd (let f : false ≡ true = p in cc)
 plain_relisted (Changed k x) p s cs = absurd (let f : false ≡ true = p in cc)
 plain_relisted (Gone u) p s cs = absurd (let f : false ≡ true = p in cc)
 plain_relisted _ p s cs = refl
 
-plain_renoted : (d : Deed) → is_plain d ≡ true → (s : ℕ) (cs : List (List ℕ)) → renoted s d cs ≡ cs
+plain_renoted : (d : Deed) → is_plain d ≡ true → (s : ℕ) (cs : List (List ℕ)) → deed_notes s d cs ≡ cs
 plain_renoted (NickSet u n) p s cs = absurd (let f : false ≡ true = p in cc)
 plain_renoted (ChannelMade u k) p s cs = absurd (let f : false ≡ true = p in cc)
 plain_renoted (Changed k x) p s cs = absurd (let f : false ≡ true = p in cc)
@@ -355,9 +358,9 @@ plain_unmade (Gone u) p = absurd (let f : false ≡ true = p in cc)
 plain_unmade _ p = refl
 
 -- rows that are as wide stand where a fact says nothing of channels
-pub relists_wide : (rs qs : List (ℕ × Card)) (d : Deed) → ((s : ℕ) (cs : List (List ℕ)) → relisted s d cs ≡ cs)
-    → ((s : ℕ) (ns : List (List ℕ)) → renoted s d ns ≡ ns) → Widens rs qs
-    → Relists rs qs (λ s. relisted s d) (λ s. renoted s d) (λ s. is_joining s d)
+pub relists_wide : (rs qs : List (ℕ × Card)) (d : Deed) → ((s : ℕ) (cs : List (List ℕ)) → deed_list s d cs ≡ cs)
+    → ((s : ℕ) (ns : List (List ℕ)) → deed_notes s d ns ≡ ns) → Widens rs qs
+    → Relists rs qs (λ s. deed_list s d) (λ s. deed_notes s d) (λ s. is_joining s d)
 relists_wide rs qs d same so w = record {
   lists = λ s. w.lists s ∙ sym (same s (row_of rs s).list);
   notes = λ s. w.notes s ∙ sym (so s (row_of rs s).notes);
@@ -365,7 +368,7 @@ relists_wide rs qs d same so w = record {
 }
 
 pub relists_plain : (rs qs : List (ℕ × Card)) (d : Deed) → is_plain d ≡ true → Widens rs qs
-    → Relists rs qs (λ s. relisted s d) (λ s. renoted s d) (λ s. is_joining s d)
+    → Relists rs qs (λ s. deed_list s d) (λ s. deed_notes s d) (λ s. is_joining s d)
 relists_plain rs qs d p w = relists_wide rs qs d (plain_relisted d p) (plain_renoted d p) w
 
 pub copies_plain : (d : Deed) (ds : List Deed) (copies : List (List ℕ)) → is_plain d ≡ true

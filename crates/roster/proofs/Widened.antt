@@ -1,7 +1,7 @@
 -- Tables that have no less room are ready for what they were.
 use Rattle.std.proofs.Common.{arith, ◌≡◌, ℕ, ◌≤◌, List, length}
 use Rattle.chronicle.specs.declared.why.Why.{Why}
-use Rattle.channel_state.specs.Held.{Held}
+use Rattle.channel_state.specs.Held.{ChannelView}
 use Rattle.roster.specs.declared.deed.Deed.{Deed}
 use Rattle.roster.specs.declared.tables.Card.{Card}
 use Rattle.roster.specs.declared.tables.Channel.{Channel}
@@ -19,8 +19,8 @@ pub record IsWider {A : Type 0} (old new : Table A) : Type 0 where
   pub list : new.list ≡ old.list
   pub room : old.room ≤ new.room
 
-module _ (es : Table (ℕ × Card)) (ws : Table Why) (hs : Table (List ℕ × ℕ)) (ks : Table Channel) (spare : List Held)
-    (names folds : List (List ℕ)) (fs ds : List Deed) where
+module _ (es : Table (ℕ × Card)) (ws : Table Why) (hs : Table (List ℕ × ℕ)) (ks : Table Channel)
+    (spare : List ChannelView) (names folds : List (List ℕ)) (fs ds : List Deed) where
   -- where channels keep their room for as many changes as there are folded names
   pub still_ready : (n : ℕ) (qs : Table (ℕ × Card)) (vs : Table Why) (ls : Table (List ℕ × ℕ)) (ms : Table Channel)
       → IsKept es ws hs ks spare folds fs ds × AreListed es.list names fs ds → length folds ≤ n

@@ -8,7 +8,7 @@ use Rattle.roster.specs.declared.deed.Deed.{Deed}
 use Rattle.casemapping.specs.Fold.{is_same}
 use Rattle.roster.specs.Legal.{AreLegal}
 use Rattle.roster.specs.LookBack.{on, state, name, members, has_member, is_operator, has_voice}
-use Rattle.roster.specs.LookBack.{invited, pardoned, mode, topic, bans, channels_on, sharers}
+use Rattle.roster.specs.LookBack.{invited, has_pardon, mode, topic, bans, channels_on, sharers}
 use Rattle.roster.specs.Told.{last_topic, last_flag, last_key, last_limit, last_ban}
 use Rattle.roster.specs.Told.{last_operator, last_voice, last_invited, last_pardoned}
 
@@ -54,7 +54,7 @@ VoicesAreTheLast = (s : ℕ) → OfChannels (λ fs c. has_voice fs s c ≡ last_
 
 abbrev pub InvitationsAreTheLast : Type 0
 InvitationsAreTheLast = (s : ℕ)
-    → OfChannels (λ fs c. (invited fs s c ≡ last_invited fs s c) × (pardoned fs s c ≡ last_pardoned fs s c))
+    → OfChannels (λ fs c. (invited fs s c ≡ last_invited fs s c) × (has_pardon fs s c ≡ last_pardoned fs s c))
 
 -- ---- each once
 

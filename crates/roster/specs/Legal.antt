@@ -7,11 +7,11 @@ use Rattle.roster.specs.declared.deed.Deed.TheVariants.{InvisibleSet, ChannelMad
 use Rattle.channel_state.specs.State.{State, among}
 use Rattle.channel_state.specs.declared.change.Change.{Change}
 use Rattle.channel_state.specs.declared.change.Change.TheVariants as change
-use Rattle.roster.specs.LookBack.{opened, holder, state, has_member}
+use Rattle.roster.specs.LookBack.{opened_in, holder, state, has_member}
 
 -- a session that was opened: they are numbered from 1 in the order in which they are
 abbrev pub IsOpened : List Deed → ℕ → Type 0
-IsOpened fs s = (0 < s) × (s ≤ length (opened fs))
+IsOpened fs s = (0 < s) × (s ≤ length (opened_in fs))
 
 -- no other session holds a nickname
 abbrev pub IsFree : List Deed → ℕ → List ℕ → Type 0
@@ -26,7 +26,7 @@ IsFit k x = Unit {0}
 
 -- a fact may come after these
 abbrev pub IsNext : List Deed → Deed → Type 0
-IsNext fs (Opened t h) = t ≡ suc (length (opened fs))
+IsNext fs (Opened t h) = t ≡ suc (length (opened_in fs))
 IsNext fs (NickSet t n) = IsOpened fs t × IsFree fs t n
 IsNext fs (UserSet t u r) = IsOpened fs t
 IsNext fs (HoldSet t on) = IsOpened fs t

@@ -5,57 +5,57 @@ use Rattle.channel_state.specs.declared.change.Change.{Change}
 use Rattle.channel_state.specs.declared.change.Change.TheVariants as change
 use Rattle.roster.specs.declared.deed.Deed.{Deed}
 use Rattle.roster.specs.declared.deed.Deed.TheVariants.{NickSet, ChannelMade, Changed, Gone}
-use Rattle.roster.specs.declared.lists.Seat.{Seat}
-use Rattle.roster.specs.declared.lists.Seat.TheVariants.{Taken, Left, Noted, Same}
-use Rattle.casemapping.specs.Fold.{folded}
+use Rattle.roster.specs.declared.channel_lists.ListChange.{ListChange}
+use Rattle.roster.specs.declared.channel_lists.ListChange.TheVariants.{Taken, Left, Noted, Same}
+use Rattle.casemapping.specs.Fold.{name_fold}
 use Rattle.roster.specs.declared.tables.Card.{Card}
 use Rattle.roster.specs.declared.tables.Channel.{Channel}
 use Rattle.channel_state.specs.State.{among}
-use Rattle.roster.specs.Row.{Row}
+use Rattle.roster.specs.Row.{ChannelList}
 use Rattle.roster.specs.Tables.{card_at, state_in, holds_name}
 use Rattle.roster.specs.LookBack.{with_last_name, without_name, channels_on, state}
 
 -- the names on a session's card
-abbrev pub row_of : List (ℕ × Card) → ℕ → Row
+abbrev pub row_of : List (ℕ × Card) → ℕ → ChannelList
 row_of es s = (card_at es s).names
 
 -- what a change says of seats
-abbrev pub seat_of : Change → Seat
+abbrev pub seat_of : Change → ListChange
 seat_of (change.Joined t) = Taken t
 seat_of (change.Left t) = Left t
 seat_of (change.Invited t by_operator) = Noted t
 seat_of x = Same
 
 -- whether a name is added to a list of s
-abbrev pub is_taken : ℕ → Seat → Bool
+abbrev pub is_taken : ℕ → ListChange → Bool
 is_taken s (Taken t) = t == s
 is_taken s (Noted t) = t == s
 is_taken s x = false
 
 -- the channels of s after a seat is taken or left
-abbrev pub reseated : ℕ → List ℕ → Seat → List (List ℕ) → List (List ℕ)
-reseated s c (Taken t) cs = cond (t == s) (with_last_name c cs) cs
-reseated s c (Left t) cs = cond (t == s) (without_name c cs) cs
-reseated s c (Noted t) cs = cs
-reseated s c Same cs = cs
+abbrev pub seat_list : ℕ → List ℕ → ListChange → List (List ℕ) → List (List ℕ)
+seat_list s c (Taken t) cs = cond (t == s) (with_last_name c cs) cs
+seat_list s c (Left t) cs = cond (t == s) (without_name c cs) cs
+seat_list s c (Noted t) cs = cs
+seat_list s c Same cs = cs
 
 -- the channels that may list s among the invited, after a seat is taken or left
-abbrev pub noted : ℕ → List ℕ → Seat → List (List ℕ) → List (List ℕ)
-noted s c (Noted t) ns = cond (t == s) (with_last_name c ns) ns
-noted s c x ns = ns
+abbrev pub seat_notes : ℕ → List ℕ → ListChange → List (List ℕ) → List (List ℕ)
+seat_notes s c (Noted t) ns = cond (t == s) (with_last_name c ns) ns
+seat_notes s c x ns = ns
 
 -- the channels of s after a deed
-abbrev pub relisted : ℕ → Deed → List (List ℕ) → List (List ℕ)
-relisted s (ChannelMade t k) cs = cond (t == s) (with_last_name k cs) cs
-relisted s (Changed k x) cs = reseated s k (seat_of x) cs
-relisted s (Gone t) cs = cond (t == s) [] cs
-relisted s d cs = cs
+abbrev pub deed_list : ℕ → Deed → List (List ℕ) → List (List ℕ)
+deed_list s (ChannelMade t k) cs = cond (t == s) (with_last_name k cs) cs
+deed_list s (Changed k x) cs = seat_list s k (seat_of x) cs
+deed_list s (Gone t) cs = cond (t == s) [] cs
+deed_list s d cs = cs
 
 -- the channels that may list s among the invited, after a deed
-abbrev pub renoted : ℕ → Deed → List (List ℕ) → List (List ℕ)
-renoted s (Changed k x) ns = noted s k (seat_of x) ns
-renoted s (Gone t) ns = cond (t == s) [] ns
-renoted s d ns = ns
+abbrev pub deed_notes : ℕ → Deed → List (List ℕ) → List (List ℕ)
+deed_notes s (Changed k x) ns = seat_notes s k (seat_of x) ns
+deed_notes s (Gone t) ns = cond (t == s) [] ns
+deed_notes s d ns = ns
 
 -- whether s joins a channel by a deed, or is invited
 abbrev pub is_joining : ℕ → Deed → Bool
@@ -74,9 +74,9 @@ made_name d = []
 
 -- the folded name that a deed gives of a channel or of a nickname
 abbrev pub keyed_name : Deed → List (List ℕ)
-keyed_name (NickSet t n) = folded n ∷ []
-keyed_name (ChannelMade t k) = folded k ∷ []
-keyed_name (Changed k x) = folded k ∷ []
+keyed_name (NickSet t n) = name_fold n ∷ []
+keyed_name (ChannelMade t k) = name_fold k ∷ []
+keyed_name (Changed k x) = name_fold k ∷ []
 keyed_name d = []
 
 -- each list becomes another; those of whom that is told have room for one less at most

@@ -8,7 +8,7 @@ use Rattle.casemapping.specs.Fold.{is_same}
 use Rattle.channel_state.specs.declared.change.Change.{Change}
 use Rattle.channel_state.specs.declared.change.Change.TheVariants as change
 use Rattle.channel_state.specs.declared.modes.Modes.{Modes}
-use Rattle.channel_state.specs.State.{State, among, is_some_one, nothing, made_by, changed, departed, lasting}
+use Rattle.channel_state.specs.State.{State, among, is_some_one, nothing, made_by, with_change, after_gone, or_nothing}
 use Rattle.chronicle.specs.declared.why.Why.{Why}
 use Rattle.chronicle.specs.declared.why.Why.TheVariants.{SendQ}
 use Rattle.roster.specs.declared.deed.Deed.{Deed}
@@ -35,10 +35,10 @@ numbers k zero = []
 numbers k (suc n) = k ∷ numbers (k + 1) n
 
 -- the sessions that were opened, in order
-abbrev pub opened : List Deed → List ℕ
-opened [] = []
-opened (Opened t h ∷ fs) = opened fs ++ t ∷ []
-opened (d ∷ fs) = opened fs
+abbrev pub opened_in : List Deed → List ℕ
+opened_in [] = []
+opened_in (Opened t h ∷ fs) = opened_in fs ++ t ∷ []
+opened_in (d ∷ fs) = opened_in fs
 
 -- ---- a session: what a fact tells of it, from its opening until it is gone
 
@@ -84,8 +84,8 @@ tells_held s (Gone t) = cond (t == s) (Some false) None
 tells_held s d = None
 
 -- whether its registration waits for the end of capability negotiation
-abbrev pub held : List Deed → ℕ → Bool
-held fs s = newest (tells_held s) false fs
+abbrev pub is_on_hold : List Deed → ℕ → Bool
+is_on_hold fs s = newest (tells_held s) false fs
 
 abbrev pub tells_caps : ℕ → Deed → Option Caps
 tells_caps s (Opened t h) = cond (t == s) (Some none_on) None
@@ -151,7 +151,7 @@ abbrev pub enrol : List Deed → ℕ → Enrolment
 enrol fs s = record {
   nick = nick fs s;
   user = user fs s;
-  hold = held fs s;
+  hold = is_on_hold fs s;
   caps = caps fs s;
   exchange = exchange fs s;
   account = account fs s;
@@ -159,8 +159,8 @@ enrol fs s = record {
 }
 
 -- the same after one fact more
-abbrev pub enrolled : ℕ → Deed → Enrolment → Enrolment
-enrolled s d e =
+abbrev pub enrol_after : ℕ → Deed → Enrolment → Enrolment
+enrol_after s d e =
     record {
       nick = unwrap_or (tells_nick s d) e.nick;
       user = unwrap_or (tells_user s d) e.user;
@@ -188,8 +188,8 @@ tells_parting s (Gone t) = cond (t == s) (Some []) None
 tells_parting s d = None
 
 -- the text that its client gave when it ended
-abbrev pub parting : List Deed → ℕ → List ℕ
-parting fs s = newest (tells_parting s) [] fs
+abbrev pub parting_text : List Deed → ℕ → List ℕ
+parting_text fs s = newest (tells_parting s) [] fs
 
 abbrev pub is_named : Option (List ℕ) → List ℕ → Bool
 is_named None n = false
@@ -197,15 +197,15 @@ is_named (Some m) n = is_same m n
 
 -- the session that holds a nickname
 abbrev pub holder : List Deed → List ℕ → Option ℕ
-holder fs n = find (λ t. is_named (nick fs t) n) (opened fs)
+holder fs n = find (λ t. is_named (nick fs t) n) (opened_in fs)
 
 abbrev pub when_registered : List Deed → Option ℕ → Option ℕ
 when_registered fs None = None
 when_registered fs (Some s) = cond (registered fs s) (Some s) None
 
 -- the user of a nickname: the registered session that holds it
-abbrev pub found : List Deed → List ℕ → Option ℕ
-found fs n = when_registered fs (holder fs n)
+abbrev pub user_named : List Deed → List ℕ → Option ℕ
+user_named fs n = when_registered fs (holder fs n)
 
 -- ---- a channel, read back no further than the deed that made it
 
@@ -225,16 +225,16 @@ abbrev pub on : List Deed → ℕ → List ℕ → Bool
 on fs s c = newest (tells_on s c) false fs
 
 -- a channel after one more fact. It ends with its last member, and what belonged to it is given back
-abbrev pub reshaped : Deed → List ℕ → State → State
-reshaped (ChannelMade t k) c st = cond (is_same k c) (made_by t) st
-reshaped (Changed k x) c st = cond (is_same k c) (lasting (changed x st)) st
-reshaped (Gone t) c st = lasting (departed t st)
-reshaped d c st = st
+abbrev pub state_after : Deed → List ℕ → State → State
+state_after (ChannelMade t k) c st = cond (is_same k c) (made_by t) st
+state_after (Changed k x) c st = cond (is_same k c) (or_nothing (with_change x st)) st
+state_after (Gone t) c st = or_nothing (after_gone t st)
+state_after d c st = st
 
 -- a channel: who is on it and with which rank, its modes, topic and bans, and who is invited
 abbrev pub state : List Deed → List ℕ → State
 state [] c = nothing
-state (d ∷ fs) c = reshaped d c (state fs c)
+state (d ∷ fs) c = state_after d c (state fs c)
 
 -- those on a channel, in the order of joining
 abbrev pub members : List Deed → List ℕ → List ℕ
@@ -251,8 +251,8 @@ has_voice fs s c = among s (state fs c).voices
 abbrev pub invited : List Deed → ℕ → List ℕ → Bool
 invited fs s c = among s (state fs c).invited
 
-abbrev pub pardoned : List Deed → ℕ → List ℕ → Bool
-pardoned fs s c = among s (state fs c).pardoned
+abbrev pub has_pardon : List Deed → ℕ → List ℕ → Bool
+has_pardon fs s c = among s (state fs c).pardoned
 
 abbrev pub mode : List Deed → List ℕ → Modes
 mode fs c = (state fs c).modes
@@ -321,4 +321,4 @@ share fs s t = list_any (λ c. on fs s c && on fs t c) (channels fs)
 
 -- the other sessions that share a channel with s, each once, in order
 abbrev pub sharers : List Deed → ℕ → List ℕ
-sharers fs s = filter (λ t. share fs s t && not (s == t)) (opened fs)
+sharers fs s = filter (λ t. share fs s t && not (s == t)) (opened_in fs)

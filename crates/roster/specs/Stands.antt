@@ -8,11 +8,12 @@ use Rattle.roster.specs.declared.deed.Deed.TheVariants.{Changed, ChannelMade}
 use Rattle.roster.specs.declared.tables.Person.{Person}
 use Rattle.roster.specs.declared.tables.Card.{Card}
 use Rattle.roster.specs.declared.tables.Channel.{Channel}
-use Rattle.casemapping.specs.Fold.{folded, is_same}
-use Rattle.channel_state.specs.State.{nothing, is_some_one, departed, lasting}
-use Rattle.channel_state.specs.Held.{Held}
-use Rattle.roster.specs.LookBack.{numbers, opened, host, nick, user, real, held, caps, exchange, account, registered}
-use Rattle.roster.specs.LookBack.{away, invisible, why, parting, is_named, state, name_of, channels}
+use Rattle.casemapping.specs.Fold.{name_fold, is_same}
+use Rattle.channel_state.specs.State.{nothing, is_some_one, after_gone, or_nothing}
+use Rattle.channel_state.specs.Held.{ChannelView}
+use Rattle.roster.specs.LookBack.{numbers, opened_in, host, nick, user, real, is_on_hold, caps, exchange, account}
+use Rattle.roster.specs.LookBack.{registered}
+use Rattle.roster.specs.LookBack.{away, invisible, why, parting_text, is_named, state, name_of, channels}
 use Rattle.roster.specs.Legal.{IsOpened, AreNext, AreLegal}
 use Rattle.roster.specs.Table.{Table}
 use Rattle.roster.specs.Tables.{person_at, why_at, held_by, state_in, name_in}
@@ -26,14 +27,14 @@ person fs s = record {
   nick = nick fs s;
   user = user fs s;
   real = real fs s;
-  held = held fs s;
+  held = is_on_hold fs s;
   caps = caps fs s;
   exchange = exchange fs s;
   account = account fs s;
   registered = registered fs s;
   away = away fs s;
   invisible = invisible fs s;
-  parting = parting fs s;
+  parting = parting_text fs s;
 }
 
 -- no two channels have one name
@@ -54,8 +55,8 @@ AreHeldBut c (k ∷ ks) = (is_same k.name c ≡ true → (is_populated k ≡ fal
 
 -- the index of nicknames: whoever has one is found by it, and nobody else
 pub record AreHolders (hs : List (List ℕ × ℕ)) (fs : List Deed) : Type 0 where
-  pub found : (s : ℕ) (n : List ℕ) → is_named (nick fs s) n ≡ true → held_by hs (folded n) ≡ Some s
-  pub named : (s : ℕ) (n : List ℕ) → held_by hs (folded n) ≡ Some s → is_named (nick fs s) n ≡ true
+  pub found : (s : ℕ) (n : List ℕ) → is_named (nick fs s) n ≡ true → held_by hs (name_fold n) ≡ Some s
+  pub named : (s : ℕ) (n : List ℕ) → held_by hs (name_fold n) ≡ Some s → is_named (nick fs s) n ≡ true
   -- who has a nickname was opened
   pub opened : (s : ℕ) (n : List ℕ) → is_named (nick fs s) n ≡ true → IsOpened fs s
 
@@ -63,7 +64,7 @@ pub record AreHolders (hs : List (List ℕ × ℕ)) (fs : List Deed) : Type 0 wh
 pub record HoldPeople (es : List (ℕ × Card)) (ws : List Why) (hs : List (List ℕ × ℕ)) (fs : List Deed) : Type 0 where
   pub people : (s : ℕ) → person_at es s ≡ person fs s
   pub whys : (s : ℕ) → why_at ws s ≡ why fs s
-  pub opened : opened fs ≡ numbers 1 (length ws)
+  pub opened : opened_in fs ≡ numbers 1 (length ws)
   pub holders : AreHolders hs fs
 
 -- the table of channels stands for facts
@@ -92,7 +93,7 @@ HaveSeats ds (k ∷ ks) = (changes k.name ds ≤ k.held.room) × HaveSeats ds ks
 
 -- a session leaves the channels of names, and those end where no member is left
 pub record LeavesThose (old new : List Channel) (cs : List (List ℕ)) (t : ℕ) : Type 0 where
-  pub states : (c : List ℕ) → state_in new c ≡ cond (holds_name c cs) (lasting (departed t (state_in old c)))
+  pub states : (c : List ℕ) → state_in new c ≡ cond (holds_name c cs) (or_nothing (after_gone t (state_in old c)))
       (state_in old c)
   pub names : (c : List ℕ) → name_in new c ≡ cond (is_some_one (state_in new c).members) (name_in old c) None
   pub channels : names_of new ≡ filter (λ c. is_some_one (state_in new c).members) (names_of old)
@@ -105,7 +106,7 @@ abbrev pub KeepsSeats : ℕ → List Channel → List Channel → Type 0
 KeepsSeats n old new = (ds : List Deed) → ((c : List ℕ) → changes c ds ≤ n) → HaveSeats ds old → HaveSeats ds new
 
 -- what channels that will be made are kept in
-abbrev pub AreSpare : ℕ → List Held → Type 0
+abbrev pub AreSpare : ℕ → List ChannelView → Type 0
 AreSpare n [] = Unit {0}
 AreSpare n (h ∷ hs) = (h.state ≡ nothing) × (n ≤ h.room) × AreSpare n hs
 
@@ -118,7 +119,7 @@ Alike (k ∷ ks) [] = ⊥
 
 -- the channel of a name has room for n changes
 pub record Reserves (old new : List Channel) (c : List ℕ) (n : ℕ) : Type 0 where
-  pub held : Held
+  pub held : ChannelView
   pub reserved : new ≡ with_held old c held
   pub room : n ≤ held.room
 
@@ -138,7 +139,7 @@ is_making d = false
 
 -- there is room for these deeds, and their names stand ready
 pub record HasRoom (es : Table (ℕ × Card)) (ws : Table Why) (hs : Table (List ℕ × ℕ)) (ks : Table Channel)
-    (spare : List Held) (folds : List (List ℕ)) (ds : List Deed) : Type 0 where
+    (spare : List ChannelView) (folds : List (List ℕ)) (ds : List Deed) : Type 0 where
   pub people : length ds ≤ es.room
   pub whys : length ds ≤ ws.room
   pub nicks : length ds ≤ hs.room
@@ -150,7 +151,7 @@ pub record HasRoom (es : Table (ℕ × Card)) (ws : Table Why) (hs : Table (List
 
 -- what holds of every roster
 pub record IsKept (es : Table (ℕ × Card)) (ws : Table Why) (hs : Table (List ℕ × ℕ)) (ks : Table Channel)
-    (spare : List Held) (folds : List (List ℕ)) (fs ds : List Deed) : Type 0 where
+    (spare : List ChannelView) (folds : List (List ℕ)) (fs ds : List Deed) : Type 0 where
   pub people : HoldPeople es.list ws.list hs.list fs
   pub channels : HoldChannels ks.list fs
   pub legal : AreLegal fs

@@ -17,9 +17,9 @@ use Rattle.roster.specs.declared.deed.Deed.TheVariants.{InvisibleSet, ChannelMad
 use Rattle.roster.specs.declared.tables.Person.{Person}
 use Rattle.roster.specs.declared.tables.Card.{Card}
 use Rattle.roster.specs.declared.tables.Channel.{Channel}
-use Rattle.casemapping.specs.Fold.{folded, is_same}
-use Rattle.channel_state.specs.State.{State, among, is_some_one, nothing, made_by, changed, departed}
-use Rattle.channel_state.specs.Held.{Held}
+use Rattle.casemapping.specs.Fold.{name_fold, is_same}
+use Rattle.channel_state.specs.State.{State, among, is_some_one, nothing, made_by, with_change, after_gone}
+use Rattle.channel_state.specs.Held.{ChannelView}
 use Rattle.channel_state.specs.declared.change.Change.{Change}
 use Rattle.roster.specs.LookBack.{numbers}
 
@@ -90,21 +90,21 @@ is_tame (Gone t) = false
 is_tame d = true
 
 -- what is known of a session after a deed of it
-abbrev pub heard : Deed → Person → Person
-heard (Opened t h) p = record nobody { host = h }
-heard (NickSet t n) p = record p { nick = Some n }
-heard (UserSet t u r) p = record p { user = Some u; real = Some r }
-heard (HoldSet t on) p = record p { held = on }
-heard (CapsSet t caps) p = record p { caps = caps }
-heard (ExchangeSet t x) p = record p { exchange = x }
-heard (LoggedIn t a) p = record p { account = Some a }
-heard (Enrolled t) p = record p { registered = true }
-heard (AwaySet t x) p = record p { away = x }
-heard (InvisibleSet t is) p = record p { invisible = is }
-heard (ChannelMade t k) p = p
-heard (Changed k x) p = p
-heard (Ended t w x) p = record p { parting = x }
-heard (Gone t) p = nobody
+abbrev pub after_deed : Deed → Person → Person
+after_deed (Opened t h) p = record nobody { host = h }
+after_deed (NickSet t n) p = record p { nick = Some n }
+after_deed (UserSet t u r) p = record p { user = Some u; real = Some r }
+after_deed (HoldSet t on) p = record p { held = on }
+after_deed (CapsSet t caps) p = record p { caps = caps }
+after_deed (ExchangeSet t x) p = record p { exchange = x }
+after_deed (LoggedIn t a) p = record p { account = Some a }
+after_deed (Enrolled t) p = record p { registered = true }
+after_deed (AwaySet t x) p = record p { away = x }
+after_deed (InvisibleSet t is) p = record p { invisible = is }
+after_deed (ChannelMade t k) p = p
+after_deed (Changed k x) p = p
+after_deed (Ended t w x) p = record p { parting = x }
+after_deed (Gone t) p = nobody
 
 abbrev pub blank : Card
 blank = record { person = nobody; names = record { list = []; notes = []; room = 0 } }
@@ -143,7 +143,7 @@ held_by hs k = lookup (bytes_eq k) hs
 
 abbrev pub is_freed : Option (List ℕ) → List ℕ → Bool
 is_freed None k = false
-is_freed (Some n) k = bytes_eq (folded n) k
+is_freed (Some n) k = bytes_eq (name_fold n) k
 
 -- nobody holds a nickname any more, if one is given
 abbrev pub Frees : List (List ℕ × ℕ) → List (List ℕ × ℕ) → Option (List ℕ) → Type 0
@@ -154,7 +154,7 @@ Frees old new n = (k : List ℕ) → held_by new k ≡ cond (is_freed n k) None 
 -- each stands under its folded name
 abbrev pub AreKeyed : List (List ℕ × Channel) → Type 0
 AreKeyed [] = Unit {0}
-AreKeyed (e ∷ es) = (e.0 ≡ folded e.1.name) × AreKeyed es
+AreKeyed (e ∷ es) = (e.0 ≡ name_fold e.1.name) × AreKeyed es
 
 -- the channel of a name
 abbrev pub channel_of : List Channel → List ℕ → Option Channel
@@ -178,15 +178,15 @@ members_in ks c = (state_in ks c).members
 abbrev pub is_mate : ℕ → ℕ → ℕ → Bool
 is_mate s n t = (nat_le 1 t && nat_le t n) && not (t == s)
 
-abbrev pub mated : ℕ → ℕ → List ℕ → List ℕ
-mated s n ts = filter (is_mate s n) ts
+abbrev pub mates_in : ℕ → ℕ → List ℕ → List ℕ
+mates_in s n ts = filter (is_mate s n) ts
 
 -- those of the first n sessions that are on one of these channels, but for s
 abbrev pub mates : List Channel → List (List ℕ) → ℕ → ℕ → List ℕ
 mates ks cs s n = filter (λ t. list_any (λ c. among t (members_in ks c)) cs && not (s == t)) (numbers 1 n)
 
 -- the channel of a name is held otherwise
-abbrev pub with_held : List Channel → List ℕ → Held → List Channel
+abbrev pub with_held : List Channel → List ℕ → ChannelView → List Channel
 with_held [] c h = []
 with_held (k ∷ ks) c h = cond (is_same k.name c) (record { name = k.name; held = h } ∷ ks) (k ∷ with_held ks c h)
 
@@ -196,14 +196,14 @@ room_in ks c = option_map_or (λ k. k.held.room) (channel_of ks c) 1
 
 -- the channel of a name becomes this, with room for so many less changes at most
 pub record Reholds (old new : List Channel) (c : List ℕ) (st : State) (less : ℕ) : Type 0 where
-  pub held : Held
+  pub held : ChannelView
   pub changed : new ≡ with_held old c held
   pub state : held.state ≡ st
   pub room : room_in old c ≤ held.room + less
 
 -- a channel more, at the end, with room for n changes
 pub record Makes (old new : List Channel) (c : List ℕ) (s n : ℕ) : Type 0 where
-  pub held : Held
+  pub held : ChannelView
   pub added : new ≡ old ++ record { name = c; held = held } ∷ []
   pub state : held.state ≡ made_by s
   pub room : n ≤ held.room
@@ -212,14 +212,14 @@ abbrev pub is_populated : Channel → Bool
 is_populated k = is_some_one k.held.state.members
 
 -- channels that have no member left end
-abbrev pub populated : List Channel → List Channel
-populated ks = filter is_populated ks
+abbrev pub with_someone : List Channel → List Channel
+with_someone ks = filter is_populated ks
 
 -- the channel of a name changes, and ends where no member is left
 pub record Changes (old new : List Channel) (c : List ℕ) (x : Change) : Type 0 where
   pub between : List Channel
-  pub reholds : Reholds old between c (changed x (state_in old c)) 1
-  pub ended : new ≡ populated between
+  pub reholds : Reholds old between c (with_change x (state_in old c)) 1
+  pub ended : new ≡ with_someone between
 
 -- whether a name is among these, however it is spelled
 abbrev pub holds_name : List ℕ → List (List ℕ) → Bool
@@ -233,5 +233,5 @@ IsPlace ks c (Some i) = (k : Channel) × (slice_get ks i ≡ Some k) × (channel
 -- a session leaves the channel of a name, which ends where no member is left
 pub record Departs (old new : List Channel) (c : List ℕ) (t : ℕ) : Type 0 where
   pub between : List Channel
-  pub reholds : Reholds old between c (departed t (state_in old c)) 0
-  pub ended : new ≡ populated between
+  pub reholds : Reholds old between c (after_gone t (state_in old c)) 0
+  pub ended : new ≡ with_someone between

@@ -2,12 +2,12 @@
 use Rattle.std.specs.Prelude.{◌≡◌, true}
 use Rattle.roster.specs.declared.deed.Deed.{Deed}
 use Rattle.roster.specs.declared.deed.Deed.TheVariants.{NickSet, ChannelMade, Changed, Gone}
-use Rattle.roster.specs.declared.touched.Touched.{Touched}
-use Rattle.roster.specs.declared.touched.Touched.TheVariants as touched
+use Rattle.roster.specs.declared.touched_tables.TouchedTables.{TouchedTables}
+use Rattle.roster.specs.declared.touched_tables.TouchedTables.TheVariants as touched
 use Rattle.roster.specs.Tables.{is_plain}
 
 -- it is that deed
-abbrev pub Touches : Touched → Deed → Type 0
+abbrev pub Touches : TouchedTables → Deed → Type 0
 Touches (touched.Person e) d = (d ≡ e) × (is_plain e ≡ true)
 Touches (touched.Nick t n) d = d ≡ NickSet t n
 Touches (touched.NewChannel t k) d = d ≡ ChannelMade t k

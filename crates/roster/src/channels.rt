@@ -5,12 +5,12 @@ ghost use Rattle.std.specs.Str.{bytes_eq};
 ghost use Rattle.indexmap.specs.IndexMap.{spare};
 ghost use Rattle.std.specs.Prelude.{◌≡◌, ◌+◌, ◌<◌, ◌≤◌, ◌++◌, ◌∷◌, ℕ, suc, true, false, [], Some};
 ghost use Rattle.std.specs.Prelude.{None, length, option_copied, slice_get, IfOk, OnOk, OnErr};
-ghost use Rattle.casemapping.specs.Fold.{folded, is_same};
-ghost use Rattle.channel_state.specs.State.{among, changed, departed};
+ghost use Rattle.casemapping.specs.Fold.{name_fold, is_same};
+ghost use Rattle.channel_state.specs.State.{among, with_change, after_gone};
 ghost use Rattle.roster.specs.Tables.{channel_of, state_in, room_in, Reholds, Makes, Changes, IsPlace, Departs};
 ghost use Rattle.roster.specs.Stands.{Alike, AreApart, LeavesThose, AreHeld, AreHeldBut, AreSpare, Reserves};
 
-use crate::boxed::Boxed;
+use crate::boxed_channel::BoxedChannel;
 use crate::hashing::NameHashing;
 use crate::tables::Channel;
 use casemapping::{Folded, is_same};
@@ -91,7 +91,7 @@ impl Channels {
     }
 
     /// A copy, whose channels have room for no change.
-    pub(crate) fn copied(&self) -> Result<Channels, AllocError>
+    pub(crate) fn try_clone(&self) -> Result<Channels, AllocError>
         ensures { IfOk result (λ r. Alike self.now.list r.list) }
     {
         Ok(Channels {
@@ -166,12 +166,12 @@ impl Channels {
     /// Adds a channel that isn't there with its first member, under its folded name, in room that was made.
     pub(crate) fn make(
         &mut self,
-        spare: &mut Vec<Boxed>,
+        spare: &mut Vec<BoxedChannel>,
         key: Folded,
         name: Octets,
         session: SessionId,
     )
-        requires key { key ≡ folded name }
+        requires key { key ≡ name_fold name }
         requires absent { channel_of self.old.list name ≡ None }
         requires room { 0 < self.old.room }
         requires spare { 0 < length spare.old.items }
@@ -190,11 +190,11 @@ impl Channels {
     /// Changes the channel of a folded name, which has room for that. It takes no memory, and tells whether nobody
     /// is on it.
     fn change_keyed(&mut self, key: &Folded, name: &[u8], change: Change) -> bool
-        requires key { key.now ≡ folded name.now }
+        requires key { key.now ≡ name_fold name.now }
         requires held { AreHeld self.old.list }
         requires room { 0 < room_in self.old.list name.now }
         ensures reholds { Reholds self.old.list self.new.list name.now
-            (changed change (state_in self.old.list name.now)) 1 }
+            (with_change change (state_in self.old.list name.now)) 1 }
         ensures ended { result ≡ true → AreHeldBut name.now self.new.list }
         ensures held { result ≡ false → AreHeld self.new.list }
         ensures room { self.new.room ≡ self.old.room }
@@ -208,7 +208,7 @@ impl Channels {
 
     /// The channel of a folded name changes, and ends where no member is left. It takes no memory.
     pub(crate) fn change(&mut self, key: &Folded, name: &[u8], change: Change)
-        requires key { key.now ≡ folded name.now }
+        requires key { key.now ≡ name_fold name.now }
         requires held { AreHeld self.old.list }
         requires room { 0 < room_in self.old.list name.now }
         ensures changes { Changes self.old.list self.new.list name.now change }
@@ -248,7 +248,7 @@ impl Channels {
         requires apart { AreApart self.old.list }
         requires held { AreHeld self.old.list }
         ensures reholds { Reholds self.old.list self.new.list name.now
-            (departed session (state_in self.old.list name.now)) 0 }
+            (after_gone session (state_in self.old.list name.now)) 0 }
         ensures ended { result ≡ true → AreHeldBut name.now self.new.list }
         ensures held { result ≡ false → AreHeld self.new.list }
         ensures room { self.new.room ≡ self.old.room }

@@ -1,9 +1,9 @@
 //! The elementary facts that a record establishes.
 ghost use Rattle.std.specs.Prelude.{◌≡◌, option_copied, OnOk};
-ghost use Rattle.channel_state.specs.State.{changed, lasting};
+ghost use Rattle.channel_state.specs.State.{with_change, or_nothing};
 ghost use Rattle.std.specs.Option.{option_map};
 ghost use Rattle.registration.specs.Enrol.{enrolment};
-ghost use Rattle.roster.specs.LookBack.{tells_host, enrolled, tells_name, reshaped};
+ghost use Rattle.roster.specs.LookBack.{tells_host, enrol_after, tells_name, state_after};
 
 use crate::people::blank_enrol;
 use casemapping::is_same;
@@ -90,7 +90,7 @@ pub enum Deed {
 
 /// A channel after a change.
 fn change_state(change: &Change, state: &mut ChannelState) -> Result<(), AllocError>
-    ensures { OnOk result (state.new.state ≡ lasting (changed change.now state.old.state)) }
+    ensures { OnOk result (state.new.state ≡ or_nothing (with_change change.now state.old.state)) }
 {
     let change = change.clone()?;
     state.reserve(1)?;
@@ -116,7 +116,7 @@ impl Deed {
 
     /// What is known of a session while it registers, after this.
     pub fn enroll<'a>(&'a self, session: SessionId, enrol: Enrol<'a>) -> Enrol<'a>
-        ensures { enrolment result ≡ enrolled session self.now (enrolment enrol.entry) }
+        ensures { enrolment result ≡ enrol_after session self.now (enrolment enrol.entry) }
     {
         match self {
             Deed::Opened { session: other, .. } | Deed::Gone { session: other }
@@ -186,7 +186,7 @@ impl Deed {
 
     /// Makes a channel the one after it.
     pub fn reshape(&self, channel: &[u8], state: &mut ChannelState) -> Result<(), AllocError>
-        ensures { OnOk result (state.new.state ≡ reshaped self.now channel.now state.old.state) }
+        ensures { OnOk result (state.new.state ≡ state_after self.now channel.now state.old.state) }
     {
         match self {
             Deed::ChannelMade {

@@ -10,14 +10,14 @@ pub(crate) struct NameHashing {
 
 impl NameHashing {
     /// By keys that everybody knows: where nobody who chooses names would tilt it.
-    pub(crate) fn fixed() -> NameHashing {
+    pub(crate) fn with_fixed_keys() -> NameHashing {
         NameHashing {
             initial: DefaultHasher::new(),
         }
     }
 
     /// By the keys of a state.
-    pub(crate) fn keyed(state: RandomState) -> NameHashing {
+    pub(crate) fn with_state(state: RandomState) -> NameHashing {
         NameHashing {
             initial: state.build_hasher(),
         }

@@ -1,24 +1,24 @@
 //! What is known of sessions and channels: a list of facts, kept in tables.
 #![tactic(auto)]
 
-mod boxed;
+mod boxed_channel;
+mod channel_lists;
 mod channels;
+mod checked_settings;
 mod deed;
-mod given;
+mod ends_of_sessions;
+mod folded_keys;
 mod hashing;
-mod keys;
 mod laws;
-mod lists;
-mod marks;
 mod nicks;
 mod people;
-mod room;
+mod preallocated;
+mod reserving;
 mod roster;
 mod sessions;
 mod sharing;
-mod stock;
 mod tables;
-mod touched;
+mod touched_tables;
 
 pub use deed::Deed;
 pub use laws::{

@@ -2,7 +2,7 @@
 ghost use Rattle.std.specs.Prelude.{◌≡◌, ◌+◌, ◌<◌, ◌≤◌, ℕ, List, [], cond, Some, None, IfOk, OnOk};
 ghost use Rattle.std.specs.Map.{lookup};
 ghost use Rattle.std.specs.Str.{bytes_eq};
-ghost use Rattle.casemapping.specs.Fold.{folded};
+ghost use Rattle.casemapping.specs.Fold.{name_fold};
 ghost use Rattle.roster.specs.Tables.{held_by, Frees};
 
 use crate::hashing::NameHashing;
@@ -42,7 +42,7 @@ impl Nicks {
     }
 
     /// A copy.
-    pub(crate) fn copied(&self) -> Result<Nicks, AllocError>
+    pub(crate) fn try_clone(&self) -> Result<Nicks, AllocError>
         ensures { IfOk result (λ r. r.list ≡ self.now.list) }
     {
         Ok(Nicks {
@@ -62,7 +62,7 @@ impl Nicks {
 
     /// The session that has a nickname, where there is no memory to fold that.
     fn search(&self, nick: &[u8]) -> Option<SessionId>
-        ensures { result ≡ held_by self.now.list (folded nick.now) }
+        ensures { result ≡ held_by self.now.list (name_fold nick.now) }
     {
         for (key, session) in &self.holders {
             if is_same(key.as_slice(), nick) {
@@ -74,7 +74,7 @@ impl Nicks {
 
     /// The session that has a nickname.
     pub(crate) fn find(&self, nick: &[u8]) -> Option<SessionId>
-        ensures { result ≡ held_by self.now.list (folded nick.now) }
+        ensures { result ≡ held_by self.now.list (name_fold nick.now) }
     {
         match Folded::new(self.alloc, nick) {
             Ok(key) => self.holders.get(&key).copied(),

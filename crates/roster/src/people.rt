@@ -3,13 +3,13 @@ ghost use Rattle.std.specs.Prelude.{◌≡◌, ◌+◌, ◌<◌, ◌≤◌, ◌=
 ghost use Rattle.std.specs.Prelude.{unwrap_or, is_some, Some, IsSome, IfOk, IfSome, OnOk};
 ghost use Rattle.registration.specs.Enrol.{enrolment};
 ghost use Rattle.roster.specs.LookBack.{with_last_name, without_name};
-ghost use Rattle.roster.specs.Tables.{nobody, enrolment_in, heard, subject, is_about, card_in, person_at};
+ghost use Rattle.roster.specs.Tables.{nobody, enrolment_in, after_deed, subject, is_about, card_in, person_at};
 ghost use Rattle.roster.specs.Lists.{row_of, Relists, Widens, Refits};
 
+use crate::channel_lists::Names;
 use crate::channels::Channels;
 use crate::deed::Deed;
-use crate::lists::Names;
-use crate::marks::Marks;
+use crate::ends_of_sessions::SessionEnds;
 use crate::tables::{Card, Person};
 use channel_state::Quick;
 use chronicle::SessionId;
@@ -100,7 +100,7 @@ fn subject(deed: &Deed) -> Option<SessionId>
 
 /// What is known of a session after a deed of it.
 fn hear(alloc: Global, person: &mut Person, deed: Deed)
-    ensures { person.new ≡ heard deed person.old }
+    ensures { person.new ≡ after_deed deed person.old }
 {
     match deed {
         Deed::Opened { session: _, host } => *person = stranger(alloc, host),
@@ -166,7 +166,7 @@ impl People {
     }
 
     /// A copy, with room for no more.
-    pub(crate) fn copied(&self) -> Result<People, AllocError>
+    pub(crate) fn try_clone(&self) -> Result<People, AllocError>
         ensures people { IfOk result
             (λ r. (t : ℕ) → person_at r.list t ≡ person_at self.now.list t) }
         ensures lists { IfOk result
@@ -202,7 +202,7 @@ impl People {
     }
 
     /// The card of a session: where it was put last, if it is still there, and else by its number.
-    fn card(&self, marks: &Marks, session: SessionId) -> Option<&Card>
+    fn card(&self, marks: &SessionEnds, session: SessionId) -> Option<&Card>
         ensures { option_copied result ≡ card_in self.now.list session }
     {
         match self.card_at(marks.place(session), session) {
@@ -212,14 +212,14 @@ impl People {
     }
 
     /// Whether a session has a card.
-    fn has(&self, marks: &Marks, session: SessionId) -> bool
+    fn has(&self, marks: &SessionEnds, session: SessionId) -> bool
         ensures { result ≡ is_some (card_in self.now.list session) }
     {
         self.card(marks, session).is_some()
     }
 
     /// What is known of a session.
-    pub(crate) fn find(&self, marks: &Marks, session: SessionId) -> Option<&Person>
+    pub(crate) fn find(&self, marks: &SessionEnds, session: SessionId) -> Option<&Person>
         ensures { unwrap_or (option_copied result) nobody ≡ person_at self.now.list session }
     {
         match self.card(marks, session) {
@@ -229,7 +229,7 @@ impl People {
     }
 
     /// The channels of a session.
-    pub(crate) fn names(&self, marks: &Marks, session: SessionId) -> &[Octets]
+    pub(crate) fn names(&self, marks: &SessionEnds, session: SessionId) -> &[Octets]
         ensures { result.now ≡ (row_of self.now.list session).list }
     {
         match self.card(marks, session) {
@@ -239,7 +239,7 @@ impl People {
     }
 
     /// The channels that may list a session among the invited: all that do are there.
-    pub(crate) fn notes(&self, marks: &Marks, session: SessionId) -> &[Octets]
+    pub(crate) fn notes(&self, marks: &SessionEnds, session: SessionId) -> &[Octets]
         ensures { result.now ≡ (row_of self.now.list session).notes }
     {
         match self.card(marks, session) {
@@ -249,7 +249,7 @@ impl People {
     }
 
     /// A session of which nothing is known has a card, too. There has to be room for it, and it takes no memory.
-    fn open(&mut self, marks: &mut Marks, session: SessionId)
+    fn open(&mut self, marks: &mut SessionEnds, session: SessionId)
         requires { 0 < self.old.room }
         ensures marks { marks.new ≡ marks.old }
         ensures people { (t : ℕ) → person_at self.new.list t ≡ person_at self.old.list t }
@@ -271,7 +271,7 @@ impl People {
     fn update(&mut self, session: SessionId, deed: Deed)
         requires { IsSome (card_in self.old.list session) }
         ensures people { (t : ℕ) → person_at self.new.list t ≡ cond (session == t)
-            (heard deed (person_at self.old.list t)) (person_at self.old.list t) }
+            (after_deed deed (person_at self.old.list t)) (person_at self.old.list t) }
         ensures lists { Widens self.old.list self.new.list }
         ensures room { self.new.room ≡ self.old.room }
     {
@@ -282,11 +282,11 @@ impl People {
     }
 
     /// What is known of sessions changes by a deed. There has to be room for a card, and it takes no memory.
-    pub(crate) fn tell(&mut self, marks: &mut Marks, deed: Deed)
+    pub(crate) fn tell(&mut self, marks: &mut SessionEnds, deed: Deed)
         requires { 0 < self.old.room }
         ensures marks { marks.new ≡ marks.old }
         ensures people { (t : ℕ) → person_at self.new.list t ≡ cond (is_about t deed)
-            (heard deed (person_at self.old.list t)) (person_at self.old.list t) }
+            (after_deed deed (person_at self.old.list t)) (person_at self.old.list t) }
         ensures lists { Widens self.old.list self.new.list }
         ensures room { self.old.room ≤ self.new.room + 1 }
     {
@@ -316,7 +316,7 @@ impl People {
     /// takes no memory.
     pub(crate) fn rename(
         &mut self,
-        marks: &mut Marks,
+        marks: &mut SessionEnds,
         session: SessionId,
         nick: Octets,
     ) -> Option<Octets>
@@ -365,7 +365,7 @@ impl People {
     }
 
     /// The last card takes the place of one that was taken out: its session is told so.
-    fn replace_at(&self, marks: &mut Marks, place: usize)
+    fn replace_at(&self, marks: &mut SessionEnds, place: usize)
         ensures { marks.new ≡ marks.old }
     {
         if let Some((number, _)) = self.cards.get_index(place) {
@@ -374,7 +374,7 @@ impl People {
     }
 
     /// The card of a session is taken out.
-    fn remove(&mut self, marks: &mut Marks, session: SessionId) -> Option<Octets>
+    fn remove(&mut self, marks: &mut SessionEnds, session: SessionId) -> Option<Octets>
         ensures marks { marks.new ≡ marks.old }
         ensures people { (t : ℕ) → person_at self.new.list t
             ≡ cond (session == t) nobody (person_at self.old.list t) }
@@ -393,7 +393,7 @@ impl People {
     /// names in it may still be wanted. It returns the nickname that it had, and takes no memory.
     pub(crate) fn forget(
         &mut self,
-        marks: &mut Marks,
+        marks: &mut SessionEnds,
         session: SessionId,
         is_last: bool,
     ) -> Option<Octets>
@@ -477,7 +477,7 @@ impl People {
     }
 
     /// A session that has no card gets one, and there is room for as many more as before.
-    fn add_card(&mut self, marks: &mut Marks, session: SessionId) -> Result<(), AllocError>
+    fn add_card(&mut self, marks: &mut SessionEnds, session: SessionId) -> Result<(), AllocError>
         ensures marks { marks.new ≡ marks.old }
         ensures people { (t : ℕ) → person_at self.new.list t ≡ person_at self.old.list t }
         ensures lists { Widens self.old.list self.new.list }
@@ -497,7 +497,7 @@ impl People {
     /// out whose channels invite it no more.
     pub(crate) fn reserve_names(
         &mut self,
-        marks: &mut Marks,
+        marks: &mut SessionEnds,
         channels: &Channels,
         session: SessionId,
         more: usize,

@@ -4,25 +4,25 @@ ghost use Rattle.std.specs.Prelude.{◌≡◌, ◌<◌, ◌^◌, ◌∷◌, [], 
 ghost use Rattle.std.specs.Prelude.{option_copied, unwrap_or, IfOk, IfSome, OnOk, OnErr};
 ghost use Rattle.roster.specs.declared.deed.Deed.TheVariants.{Ended};
 
+use crate::channel_lists::{has_name, join_made, reseat, reserve_lists, seat_of};
 use crate::channels::Channels;
+use crate::checked_settings::CheckedSettings;
 use crate::deed::Deed;
-use crate::given::Given;
+use crate::ends_of_sessions::SessionEnds;
+use crate::folded_keys::{change, make, take};
 use crate::hashing::NameHashing;
-use crate::keys::{change, make, take};
-use crate::lists::{has_name, join_made, reseat, reserve_lists, seat_of};
-use crate::marks::Marks;
 use crate::nicks::Nicks;
 use crate::people::{People, blank_enrol, enrol_of};
-use crate::room::{reserve_channels, reserve_people};
+use crate::preallocated::Stock;
+use crate::reserving::{reserve_channels, reserve_people};
 use crate::sessions::Sessions;
 use crate::sharing::find_sharers;
-use crate::stock::Stock;
-use crate::touched::{Touched, touched_by};
+use crate::touched_tables::{TouchedTables, touched_by};
 use channel_state::ChannelState;
 use chronicle::{SessionId, Why};
-use ghosts::{Change, Snapshot, append_all, apply, blank, copied};
 use line_grammar::Octets;
 use registration::{Caps, Enrol, Settings};
+use snapshots::{GhostChange, Snapshot, append_all, apply, blank, copy_of};
 use std::alloc::{AllocError, Global};
 use std::collections::LinkedList;
 use std::hash::RandomState;
@@ -34,9 +34,9 @@ use std::mem::swap;
 #[derive(Drop)]
 pub struct Roster {
     alloc: Global,
-    given: Given,
+    given: CheckedSettings,
     people: People,
-    marks: Marks,
+    marks: SessionEnds,
     nicks: Nicks,
     channels: Channels,
     /// For the facts that it is ready for.
@@ -68,14 +68,14 @@ impl Model for Roster {
 // A fact is added, as the newest.
 struct Adds;
 
-impl Change<LinkedList<Deed>, Deed> for Adds {
+impl GhostChange<LinkedList<Deed>, Deed> for Adds {
     ghost changed = { λ fs d. d ∷ fs };
 }
 
 // The first fact that was prepared is done.
 struct DropsFirst;
 
-impl Change<LinkedList<Deed>, ()> for DropsFirst {
+impl GhostChange<LinkedList<Deed>, ()> for DropsFirst {
     ghost changed = { λ ds unit. drop 1 ds };
 }
 
@@ -83,8 +83,9 @@ impl Roster {
     ghost use Rattle.registration.specs.Settings.{IsWellSet};
     ghost use Rattle.roster.specs.Legal.{IsOpened, AreLegal, AreNext};
     ghost use Rattle.registration.specs.Enrol.{enrolment};
-    ghost use Rattle.roster.specs.LookBack.{opened, host, nick, user, real, caps, enrol, registered, away};
-    ghost use Rattle.roster.specs.LookBack.{invisible, why, parting, holder, found, on, state, members, name_of};
+    ghost use Rattle.roster.specs.LookBack.{opened_in, host, nick, user, real, caps, enrol, registered, away};
+    ghost use Rattle.roster.specs.LookBack.{invisible, why, parting_text, holder, user_named, on, state, members};
+    ghost use Rattle.roster.specs.LookBack.{name_of};
     ghost use Rattle.roster.specs.LookBack.{channels, channel_count, channels_on, sharers};
     ghost use Rattle.channel_state.specs.State.{nothing};
 
@@ -95,7 +96,7 @@ impl Roster {
         requires { IsWellSet settings }
         ensures { result ≡ record { settings = settings; facts = []; ready = [] } }
     {
-        Roster::hashed(alloc, settings, NameHashing::fixed())
+        Roster::with_hashing(alloc, settings, NameHashing::with_fixed_keys())
     }
 
     /// The same, where names are looked up by a hash that has the keys of a state, which nobody outside knows. No
@@ -104,19 +105,19 @@ impl Roster {
         requires { IsWellSet settings }
         ensures { result ≡ record { settings = settings; facts = []; ready = [] } }
     {
-        Roster::hashed(alloc, settings, NameHashing::keyed(state))
+        Roster::with_hashing(alloc, settings, NameHashing::with_state(state))
     }
 
     /// The roster of no facts, where names are hashed so.
-    fn hashed(alloc: Global, settings: Settings, hashing: NameHashing) -> Roster
+    fn with_hashing(alloc: Global, settings: Settings, hashing: NameHashing) -> Roster
         requires { IsWellSet settings }
         ensures { result ≡ record { settings = settings; facts = []; ready = [] } }
     {
         Roster {
             alloc,
-            given: Given::new(settings),
+            given: CheckedSettings::new(settings),
             people: People::new(alloc),
-            marks: Marks::new(alloc),
+            marks: SessionEnds::new(alloc),
             nicks: Nicks::new(alloc, hashing),
             channels: Channels::new(alloc, hashing),
             stock: Stock::new(alloc),
@@ -133,14 +134,14 @@ impl Roster {
     {
         Ok(Roster {
             alloc: self.alloc,
-            given: self.given.copied()?,
-            people: self.people.copied()?,
-            marks: self.marks.copied()?,
-            nicks: self.nicks.copied()?,
-            channels: self.channels.copied()?,
+            given: self.given.try_clone()?,
+            people: self.people.try_clone()?,
+            marks: self.marks.try_clone()?,
+            nicks: self.nicks.try_clone()?,
+            channels: self.channels.try_clone()?,
             stock: Stock::new(self.alloc),
             fresh: Stock::new(self.alloc),
-            facts: copied(&self.facts),
+            facts: copy_of(&self.facts),
             ready: blank(self.alloc),
         })
     }
@@ -185,13 +186,13 @@ impl Roster {
         apply::<DropsFirst, LinkedList<Deed>, ()>(&mut self.ready, &());
         self.marks.hear(&deed);
         match touched_by(deed) {
-            Touched::Person { deed } => self.people.tell(&mut self.marks, deed),
-            Touched::Nick { session, nick } => {
+            TouchedTables::Person { deed } => self.people.tell(&mut self.marks, deed),
+            TouchedTables::Nick { session, nick } => {
                 let before = self.people.rename(&mut self.marks, session, nick);
                 self.nicks.give_back(before);
                 take(&mut self.nicks, &mut self.stock.keys, session);
             }
-            Touched::NewChannel { session, channel } => {
+            TouchedTables::NewChannel { session, channel } => {
                 make(
                     &mut self.channels,
                     &mut self.stock.spare,
@@ -201,7 +202,7 @@ impl Roster {
                 );
                 join_made(&mut self.people, &mut self.stock.copies, session);
             }
-            Touched::Channel {
+            TouchedTables::Channel {
                 channel,
                 change: made,
             } => {
@@ -214,7 +215,7 @@ impl Roster {
                 );
                 reseat(&mut self.people, seat, channel);
             }
-            Touched::All { session } => {
+            TouchedTables::All { session } => {
                 let names = self.people.names(&self.marks, session);
                 self.channels.leave_each(names, session);
                 let notes = self.people.notes(&self.marks, session);
@@ -263,8 +264,8 @@ impl Roster {
     }
 
     /// How many sessions were opened: they have the numbers from 1.
-    pub fn opened(&self) -> usize
-        ensures count { result ≡ length (opened self.now.facts) }
+    pub fn opened_count(&self) -> usize
+        ensures count { result ≡ length (opened_in self.now.facts) }
         ensures bound { result < 2 ^ 63 }
     {
         self.marks.len()
@@ -386,7 +387,7 @@ impl Roster {
 
     /// The text that a session's client gave when it ended.
     pub fn parting_of(&self, session: SessionId) -> &[u8]
-        ensures { result.now ≡ parting self.now.facts session }
+        ensures { result.now ≡ parting_text self.now.facts session }
     {
         match self.people.find(&self.marks, session) {
             Some(person) => person.parting.as_slice(),
@@ -403,7 +404,7 @@ impl Roster {
 
     /// The user of a nickname: the registered session that holds it.
     pub fn find(&self, nick: &[u8]) -> Option<SessionId>
-        ensures { result ≡ found self.now.facts nick.now }
+        ensures { result ≡ user_named self.now.facts nick.now }
     {
         let session = self.holder(nick)?;
         if self.is_registered(session) {

@@ -39,7 +39,7 @@ impl Sessions {
     }
 
     /// A copy of a slice.
-    pub fn copied(alloc: Global, sessions: &[SessionId]) -> Result<Sessions, AllocError>
+    pub fn copy_of(alloc: Global, sessions: &[SessionId]) -> Result<Sessions, AllocError>
         ensures { IfOk result (λ s. s ≡ sessions.now) }
     {
         Ok(Sessions {

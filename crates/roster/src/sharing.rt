@@ -2,10 +2,10 @@
 ghost use Rattle.std.specs.Prelude.{◌≡◌, ◌&&◌, ◌++◌, not, ◌==◌, ℕ, [], ◌∷◌, cond, nat_le, length, IfOk, OnOk};
 ghost use Rattle.std.specs.List.{flat_map};
 ghost use Rattle.roster.specs.Lists.{row_of};
-ghost use Rattle.roster.specs.Tables.{members_in, mates, is_mate, mated};
+ghost use Rattle.roster.specs.Tables.{members_in, mates, is_mate, mates_in};
 
 use crate::channels::Channels;
-use crate::marks::Marks;
+use crate::ends_of_sessions::SessionEnds;
 use crate::people::People;
 use crate::sessions::Sessions;
 use chronicle::SessionId;
@@ -68,7 +68,7 @@ fn mates_of(
     session: SessionId,
     count: usize,
 ) -> Result<Sessions, AllocError>
-    ensures { IfOk result (λ v. v ≡ mated session count numbers.now) }
+    ensures { IfOk result (λ v. v ≡ mates_in session count numbers.now) }
 {
     let mut mates = Sessions::from_vec(Vec::new(alloc));
     for number in numbers {
@@ -81,7 +81,7 @@ fn mates_of(
 pub(crate) fn find_sharers(
     alloc: Global,
     people: &People,
-    marks: &Marks,
+    marks: &SessionEnds,
     channels: &Channels,
     session: SessionId,
     count: usize,

@@ -1,8 +1,8 @@
 //! The tables' rows.
 ghost use Rattle.std.specs.Prelude.{◌≡◌};
 
-use crate::boxed::Boxed;
-use crate::lists::Names;
+use crate::boxed_channel::BoxedChannel;
+use crate::channel_lists::Names;
 use line_grammar::Octets;
 use registration::Caps;
 use std::alloc::AllocError;
@@ -75,7 +75,7 @@ impl Clone for Card {
 #[derive(Drop)]
 pub struct Channel {
     pub name: Octets,
-    pub held: Boxed,
+    pub held: BoxedChannel,
 }
 
 // A copy has room for no change.
@@ -85,7 +85,7 @@ impl Clone for Channel {
     fn clone(&self) -> Result<Channel, AllocError> {
         Ok(Channel {
             name: self.name.clone()?,
-            held: self.held.copied()?,
+            held: self.held.try_clone()?,
         })
     }
 }

@@ -5,14 +5,14 @@
 //! happens and reported here, at most once a second, so a flood of them is one line; with a log each is a line of it.
 //! Without file descriptors it tries again after 20 ms, and says so at most once a second.
 use crate::connections::{PAUSE, Serving};
-use crate::events::{Event, Events};
-use crate::news::{Counts, News, Teller};
-use crate::post::{Arrival, WAKE, Watch};
+use crate::events::{Events, LogEvent};
+use crate::mailbox::{Arrival, WAKE, Watch};
+use crate::news::{News, ServerCounts, Teller};
 use crate::stopping::Stopping;
 use mio::net::TcpListener;
 use mio::{Interest, Registry, Token, Waker};
-use session_io::hall::{Naming, Told};
-use session_io::{Clock as _, Gate, beat, tell, tick};
+use session_io::book::{FlushList, Naming};
+use session_io::{Clock as _, Gate, beat, flush, tick};
 use std::alloc::Global;
 use std::io::ErrorKind;
 use std::net::{Net, SocketAddr};
@@ -26,7 +26,7 @@ const EVENTS: usize = 4;
 /// Seconds between two times at which it is told what happened.
 const BETWEEN: u64 = 1;
 
-/// Milliseconds of the server's clock between two beats, in each of which who is quiet is pinged, and who is so for
+/// Milliseconds of the server's clock between two beats, in each of which who is idle is pinged, and who is so for
 /// too long is ended.
 const BEAT: i64 = 10_000;
 
@@ -80,7 +80,7 @@ pub(crate) struct Acceptor<'a, L: Naming, R: Wait + Clock + Copy + Drop, G: Gate
     server: &'a Serving<'a, L, R, G, C>,
     listeners: &'a Listeners,
     teller: Option<&'a Teller>,
-    told: Told,
+    told: FlushList,
     /// When the last beat was, by the server's clock.
     last: i64,
     /// When it was last told what happened.
@@ -107,7 +107,7 @@ where
             server,
             listeners,
             teller,
-            told: Told::new(alloc),
+            told: FlushList::new(alloc),
             last: server.host.now().milliseconds(),
             reported: None,
         }
@@ -144,7 +144,7 @@ impl<L: Naming, R: Wait + Clock + Copy + Drop, G: Gate, C: crate::Clock> Accepto
     }
 
     /// Has a beat where it is time for one, or where the clock was set back, and answers in how many milliseconds
-    /// the next is to be. Where it comes late nobody is ended before the next: who is quiet is pinged.
+    /// the next is to be. Where it comes late nobody is ended before the next: who is idle is pinged.
     fn beat_in_time(&mut self) -> u64 {
         let now = self.server.host.now().milliseconds();
         let passed = now.saturating_sub(self.last);
@@ -160,7 +160,7 @@ impl<L: Naming, R: Wait + Clock + Copy + Drop, G: Gate, C: crate::Clock> Accepto
         if tick(self.rt, self.server, &mut self.told).answer.is_ok() {
             self.last = now;
         }
-        tell(self.server, &mut self.told);
+        flush(self.server, &mut self.told);
         BEAT as u64
     }
 
@@ -171,13 +171,16 @@ impl<L: Naming, R: Wait + Clock + Copy + Drop, G: Gate, C: crate::Clock> Accepto
             Some(log) => log.has_lost(),
             None => false,
         };
-        waits.is_some() || has_lost || connections.refused() != 0 || connections.kept.has_rolls()
+        waits.is_some()
+            || has_lost
+            || connections.refused_count() != 0
+            || connections.kept.has_rolls()
     }
 
     /// Leaves for the log what it isn't told where it happens: that connections wait, and that events were lost.
     fn log_news(&self, log: &Events<R>, waits: Option<i32>) {
         if let Some(code) = waits {
-            self.server.host.all.note(Event::Waiting(code));
+            self.server.host.all.note(LogEvent::Waiting(code));
         }
         log.leave_lost(self.rt);
     }
@@ -185,7 +188,7 @@ impl<L: Naming, R: Wait + Clock + Copy + Drop, G: Gate, C: crate::Clock> Accepto
     /// Has it told how often things happened.
     fn tell_counts(&self, teller: &Teller, waits: Option<i32>) {
         let connections = self.server.host.all;
-        let counts = Counts {
+        let counts = ServerCounts {
             refused: connections.tell_refused(),
             rolls: connections.kept.take_rolls(),
             waits,
@@ -231,9 +234,9 @@ impl<L: Naming, R: Wait + Clock + Copy + Drop, G: Gate, C: crate::Clock> Accepto
     fn tell_stop(&self, teller: &Teller) {
         let connections = self.server.host.all;
         if connections.is_full() {
-            connections.note(Event::Stopping("journal full"));
+            connections.note(LogEvent::Stopping("journal full"));
         } else if connections.log.is_some() {
-            connections.note(Event::Stopping("standard input ended"));
+            connections.note(LogEvent::Stopping("standard input ended"));
         } else {
             teller.leave(self.rt, News::InputEnded);
         }

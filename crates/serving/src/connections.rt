@@ -1,23 +1,23 @@
 //! The connections of all sessions, as the threads of others know them.
 
 mod connection;
-mod view;
+mod thread_host;
 
-use crate::events::{Event, Events};
-use crate::journal::Kept;
-use crate::post::{Arrival, Post};
+use crate::events::{Events, LogEvent};
+use crate::journal_size::JournalSize;
+use crate::mailbox::{Arrival, Mailbox};
 use crate::stopping::Stopping;
 use chronicle::SessionId;
-use client_streams::{Crowd, MOST_GREETING, MOST_LINGERING};
-pub(crate) use connection::{Connection, Output};
+use client_streams::{MOST_GREETING, MOST_LINGERING, Semaphore};
+pub(crate) use connection::{ClientOutput, Connection};
 use indexmap::IndexMap;
-use session_io::hall::Naming;
+use session_io::book::Naming;
 use std::alloc::{AllocError, Global};
 use std::net::SocketAddr;
 use std::sync::atomic::{AtomicBool, AtomicU64, Ordering};
 use std::sync::{Arc, RwLock, Wait};
 use std::time::Clock;
-pub(crate) use view::{Serving, View};
+pub(crate) use thread_host::{Serving, ThreadHost};
 
 /// Milliseconds of a pause.
 pub(crate) const PAUSE: u64 = 20;
@@ -47,20 +47,20 @@ pub(crate) struct Connections<L: Naming, R: Wait + Clock + Copy + Drop> {
     /// What happens, where there is a log.
     pub(crate) log: Option<Events<R>>,
     by_session: RwLock<IndexMap<u64, Arc<Connection<L, R>>>>,
-    posts: Vec<Post>,
+    posts: Vec<Mailbox>,
     stopping: Arc<Stopping>,
     /// How many octets may wait for a session besides its newest delivery.
     most: u64,
-    pub(crate) kept: Kept,
+    pub(crate) kept: JournalSize,
     is_closed: AtomicBool,
     // Connections that were refused and aren't told of yet.
     refused: AtomicU64,
     // Somebody was shut since all who are shut were swept.
     has_unswept: AtomicBool,
     /// Who greets, of all workers.
-    pub(crate) greeting: Crowd,
+    pub(crate) greeting: Semaphore,
     /// Whose stream lingers, of all workers.
-    pub(crate) lingering: Crowd,
+    pub(crate) lingering: Semaphore,
 }
 
 impl<L: Naming, R: Wait + Clock + Copy + Drop> Connections<L, R> {
@@ -70,7 +70,7 @@ impl<L: Naming, R: Wait + Clock + Copy + Drop> Connections<L, R> {
         rt: R,
         alloc: Global,
         log: Option<Events<R>>,
-        posts: Vec<Post>,
+        posts: Vec<Mailbox>,
         stopping: Arc<Stopping>,
         most: u64,
         journal: u64,
@@ -82,17 +82,17 @@ impl<L: Naming, R: Wait + Clock + Copy + Drop> Connections<L, R> {
             posts,
             stopping,
             most,
-            kept: Kept::new(journal),
+            kept: JournalSize::new(journal),
             is_closed: AtomicBool::new(false),
             refused: AtomicU64::new(0),
             has_unswept: AtomicBool::new(false),
-            greeting: Crowd::new(MOST_GREETING),
-            lingering: Crowd::new(MOST_LINGERING),
+            greeting: Semaphore::new(MOST_GREETING),
+            lingering: Semaphore::new(MOST_LINGERING),
         }
     }
 
     /// An event for the log, where there is one.
-    pub(crate) fn note(&self, event: Event) {
+    pub(crate) fn note(&self, event: LogEvent) {
         if let Some(log) = &self.log {
             log.leave(&self.rt, event);
         }
@@ -104,7 +104,7 @@ impl<L: Naming, R: Wait + Clock + Copy + Drop> Connections<L, R> {
         if self.is_stopping() {
             return;
         }
-        self.note(Event::Refused(peer, why));
+        self.note(LogEvent::Refused(peer, why));
         if self.log.is_none() {
             self.refused.fetch_add(1, Ordering::SeqCst);
             self.stopping.wake();
@@ -112,9 +112,9 @@ impl<L: Naming, R: Wait + Clock + Copy + Drop> Connections<L, R> {
     }
 
     /// The journal was rolled. Where there is no log the thread that accepts tells of it.
-    pub(crate) fn rolled(&self, dropped: usize) {
-        self.kept.rolled(dropped);
-        self.note(Event::Rolled(dropped));
+    pub(crate) fn note_roll(&self, dropped: usize) {
+        self.kept.note_roll(dropped);
+        self.note(LogEvent::Rolled(dropped));
         if self.log.is_some() {
             let _ = self.kept.take_rolls();
         }
@@ -122,7 +122,7 @@ impl<L: Naming, R: Wait + Clock + Copy + Drop> Connections<L, R> {
     }
 
     /// How many connections were refused that weren't told of.
-    pub(crate) fn refused(&self) -> u64 {
+    pub(crate) fn refused_count(&self) -> u64 {
         self.refused.load(Ordering::SeqCst)
     }
 
@@ -132,7 +132,7 @@ impl<L: Naming, R: Wait + Clock + Copy + Drop> Connections<L, R> {
     }
 
     /// The post of a worker.
-    pub(crate) fn post(&self, worker: usize) -> Option<&Post> {
+    pub(crate) fn post(&self, worker: usize) -> Option<&Mailbox> {
         self.posts.get(worker)
     }
 
@@ -155,7 +155,7 @@ impl<L: Naming, R: Wait + Clock + Copy + Drop> Connections<L, R> {
     /// Leaves a connection to the worker that has the fewest.
     pub(crate) fn bring(&self, arrival: Arrival) {
         let peer = arrival.peer;
-        let mut best: Option<&Post> = None;
+        let mut best: Option<&Mailbox> = None;
         for post in self.posts.iter() {
             match best {
                 Some(found) if found.clients() <= post.clients() => {}

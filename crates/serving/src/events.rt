@@ -19,7 +19,7 @@ use std::{io, str};
 
 /// What happened.
 #[derive(Drop)]
-pub(crate) enum Event {
+pub(crate) enum LogEvent {
     /// The server began to serve, by so many workers.
     Started(usize),
     /// It is to end, for this reason.
@@ -131,19 +131,19 @@ fn warn_lost<R: Eprint>(to: Timed<'_, '_, R>, count: u64) {
 }
 
 /// Tells of an event.
-fn tell_to<R: Eprint>(to: Timed<'_, '_, R>, event: &Event) {
+fn tell_to<R: Eprint>(to: Timed<'_, '_, R>, event: &LogEvent) {
     match event {
-        Event::Started(workers) => tell_started(to, *workers),
-        Event::Stopping(why) => tell_stopping(to, why),
-        Event::Ended => tell_ended(to),
-        Event::Came(session, from, is_web) => tell_came(to, *session, *from, *is_web),
-        Event::Named(session, nick) => tell_named(to, *session, nick),
-        Event::Went(session, why) if is_fault(why) => warn_went(to, *session, why),
-        Event::Went(session, why) => tell_went(to, *session, why),
-        Event::Refused(from, why) => warn_refused(to, *from, why),
-        Event::Waiting(code) => warn_waiting(to, *code),
-        Event::Rolled(dropped) => tell_rolled(to, *dropped),
-        Event::Lost(count) => warn_lost(to, *count),
+        LogEvent::Started(workers) => tell_started(to, *workers),
+        LogEvent::Stopping(why) => tell_stopping(to, why),
+        LogEvent::Ended => tell_ended(to),
+        LogEvent::Came(session, from, is_web) => tell_came(to, *session, *from, *is_web),
+        LogEvent::Named(session, nick) => tell_named(to, *session, nick),
+        LogEvent::Went(session, why) if is_fault(why) => warn_went(to, *session, why),
+        LogEvent::Went(session, why) => tell_went(to, *session, why),
+        LogEvent::Refused(from, why) => warn_refused(to, *from, why),
+        LogEvent::Waiting(code) => warn_waiting(to, *code),
+        LogEvent::Rolled(dropped) => tell_rolled(to, *dropped),
+        LogEvent::Lost(count) => warn_lost(to, *count),
     }
 }
 
@@ -156,7 +156,7 @@ fn time_in<'a>(text: &'a Result<Octets, TimeFault>) -> &'a str {
 }
 
 /// Tells of an event that was at this moment.
-pub(crate) fn tell_event<R: Eprint>(rt: &R, alloc: Global, at: Moment, event: &Event) {
+pub(crate) fn tell_event<R: Eprint>(rt: &R, alloc: Global, at: Moment, event: &LogEvent) {
     let text = time_text(alloc, at.milliseconds());
     let time = time_in(&text);
     tell_to(Timed { rt, time }, event);
@@ -182,7 +182,7 @@ impl<R: Wait + Clock + Copy + Drop> Events<R> {
     }
 
     /// Leaves an event that is now, where there is room.
-    pub(crate) fn leave(&self, rt: &R, event: Event) {
+    pub(crate) fn leave(&self, rt: &R, event: LogEvent) {
         let news = News::Event(self.clock.now(), event);
         if self.news.try_send(rt, news).is_err() {
             self.lost.fetch_add(1, Ordering::SeqCst);
@@ -198,7 +198,7 @@ impl<R: Wait + Clock + Copy + Drop> Events<R> {
     pub(crate) fn leave_lost(&self, rt: &R) {
         let lost = self.lost.swap(0, Ordering::SeqCst);
         if lost != 0 {
-            self.leave(rt, Event::Lost(lost));
+            self.leave(rt, LogEvent::Lost(lost));
         }
     }
 }

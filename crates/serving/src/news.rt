@@ -1,6 +1,6 @@
 //! What is told on standard error while a server runs, by a thread of its own: nobody else waits for who reads that.
-use crate::events::{Event, tell_event};
-use crate::journal::Rolls;
+use crate::events::{LogEvent, tell_event};
+use crate::journal_size::Rolls;
 use chronicle::Moment;
 use crossbeam_channel::{Receiver, Sender, bounded};
 use std::alloc::{AllocError, Global};
@@ -20,7 +20,7 @@ const FEW: usize = 2;
 
 /// How often things happened since it was last told.
 #[derive(Clone, Copy, Drop)]
-pub(crate) struct Counts {
+pub(crate) struct ServerCounts {
     /// Connections that were refused.
     pub(crate) refused: u64,
     /// The journal's rolls.
@@ -32,9 +32,9 @@ pub(crate) struct Counts {
 /// What is to be told.
 #[derive(Drop)]
 pub(crate) enum News {
-    Counts(Counts),
+    Counts(ServerCounts),
     /// For the log.
-    Event(Moment, Event),
+    Event(Moment, LogEvent),
     /// Standard input ended, by which the server is asked to stop.
     InputEnded,
     /// Nothing more comes.
@@ -72,7 +72,7 @@ fn tell_input_ended<R: Eprint>(rt: &R) {
 }
 
 /// Tells how often things happened.
-fn tell_counts<R: Eprint>(rt: &R, counts: Counts) {
+fn tell_counts<R: Eprint>(rt: &R, counts: ServerCounts) {
     if counts.refused != 0 {
         tell_refused(rt, counts.refused);
     }

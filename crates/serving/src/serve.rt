@@ -2,7 +2,7 @@
 ghost use Rattle.std.specs.Prelude.{◌≡◌, ◌<◌, [], false, Err};
 ghost use Rattle.serving.specs.declared.serve.ServeFault.TheVariants.{BadSettings, Memory};
 
-mod doors;
+mod event_sources;
 mod shared;
 
 use crate::clock::SystemClock;
@@ -10,10 +10,10 @@ use crate::connections::Connections;
 use crate::events::Events;
 use crate::news::Teller;
 use chronicle::SessionId;
-use doors::{Doors, doors_of, has_stop};
+use event_sources::{EventSources, doors_of, has_stop};
 use session_io::Gate;
-use session_io::hall::outbox::{ChannelName, Sender};
-use session_io::hall::{BookFault, Hall, Naming, Register, Settings};
+use session_io::book::outbox::{ChannelName, Sender};
+use session_io::book::{BookFault, Hall, Naming, Register, Settings};
 use shared::{Config, Shared, run_on};
 use std::alloc::{AllocError, Global};
 use std::hash::RandomState;
@@ -153,7 +153,7 @@ fn log_of<R: Wait + Clock + Copy + Drop>(
 fn connections_of<L: Naming, R: Wait + Clock + Copy + Drop, G: Gate, C: crate::Clock>(
     rt: &R,
     alloc: Global,
-    doors: &mut Doors,
+    doors: &mut EventSources,
     config: &Config<'_, G, C>,
     teller: Option<&Teller>,
 ) -> Result<Connections<L, R>, ServeFault> {
@@ -186,7 +186,7 @@ fn serve_told<
     rt: &R,
     alloc: Global,
     hall: &Mutex<Hall<L, Sender<R>>>,
-    doors: &mut Doors,
+    doors: &mut EventSources,
     config: &Config<'_, G, C>,
     teller: Option<&Teller>,
     stop: I,
@@ -212,7 +212,7 @@ fn serve_by<
     rt: &R,
     alloc: Global,
     hall: &Mutex<Hall<L, Sender<R>>>,
-    doors: &mut Doors,
+    doors: &mut EventSources,
     config: &Config<'_, G, C>,
     stop: I,
 ) -> Result<(), ServeFault> {

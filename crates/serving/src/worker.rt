@@ -5,27 +5,27 @@
 //! A client that sends much is read once between two looks at the events of all. A shut session whose client doesn't
 //! read is looked at every 20 ms, 250 times, since no event says that time went by.
 
-mod batch;
 mod client;
+mod client_slab;
 mod closing;
-mod hosts;
-mod noting;
+mod connecting;
+mod deferred_writes;
+mod log_notes;
 mod opening;
-mod places;
+mod peer_hosts;
 mod reading;
-mod sessions;
 
 use crate::connections::{NO_MEMORY, PAUSE, Serving};
-use crate::post::{Arrival, Mail, Post, WAKE};
-use batch::Batch;
-use client_streams::{Guests, Lingerers};
+use crate::mailbox::{Arrival, Mail, Mailbox, WAKE};
+use client_slab::ClientSlab;
+pub(crate) use client_slab::Slot;
+use client_streams::{Lingerers, PendingHandshakes};
+pub(crate) use connecting::Incoming;
+use deferred_writes::DeferredWrites;
 use mio::{Events, Poll};
-pub(crate) use places::Place;
-use places::Places;
 use reading::Readiness;
-use session_io::hall::{Naming, Told};
-use session_io::{Gate, tell};
-pub(crate) use sessions::Incoming;
+use session_io::book::{FlushList, Naming};
+use session_io::{Gate, flush};
 use std::alloc::Global;
 use std::collections::VecDeque;
 use std::sync::Wait;
@@ -44,7 +44,7 @@ const SHOWN: usize = 10_000;
 /// A worker: its clients' places, and what it works with besides, so that a place can be lent to that.
 #[derive(Drop)]
 pub(crate) struct Worker<'a, L: Naming, R: Wait + Clock + Copy + Drop, G: Gate, C: crate::Clock> {
-    pub(crate) places: Places<L, R>,
+    pub(crate) places: ClientSlab<L, R>,
     pub(crate) context: Context<'a, L, R, G, C>,
 }
 
@@ -54,13 +54,13 @@ pub(crate) struct Context<'a, L: Naming, R: Wait + Clock + Copy + Drop, G: Gate,
     pub(crate) rt: &'a R,
     pub(crate) alloc: Global,
     pub(crate) server: &'a Serving<'a, L, R, G, C>,
-    post: &'a Post,
+    post: &'a Mailbox,
     poll: Poll,
     sendq: usize,
-    pub(crate) guests: Guests,
-    told: Told,
+    pub(crate) guests: PendingHandshakes,
+    told: FlushList,
     mail: Mail,
-    batch: Batch,
+    batch: DeferredWrites,
     /// Who connected and isn't served yet, the first first.
     arrivals: VecDeque<Arrival>,
     /// Who may have more to be read, those who wait longest first.
@@ -90,12 +90,12 @@ impl<'a, L: Naming, R: Wait + Clock + Copy + Drop, G: Gate, C: crate::Clock> Wor
         rt: &'a R,
         alloc: Global,
         server: &'a Serving<'a, L, R, G, C>,
-        post: &'a Post,
+        post: &'a Mailbox,
         poll: Poll,
         sendq: usize,
     ) -> Worker<'a, L, R, G, C> {
         Worker {
-            places: Places::new(alloc),
+            places: ClientSlab::new(alloc),
             context: Context {
                 rt,
                 alloc,
@@ -103,10 +103,10 @@ impl<'a, L: Naming, R: Wait + Clock + Copy + Drop, G: Gate, C: crate::Clock> Wor
                 post,
                 poll,
                 sendq,
-                guests: Guests::new(alloc),
-                told: Told::new(alloc),
+                guests: PendingHandshakes::new(alloc),
+                told: FlushList::new(alloc),
                 mail: Mail::new(alloc),
-                batch: Batch::new(alloc),
+                batch: DeferredWrites::new(alloc),
                 arrivals: VecDeque::new(alloc),
                 more: VecDeque::new(alloc),
                 closing: Vec::new(alloc),
@@ -166,7 +166,7 @@ impl<L: Naming, R: Wait + Clock + Copy + Drop, G: Gate, C: crate::Clock> Worker<
         };
         let mut sweeps = most;
         for _ in rt.forever() {
-            tell(server, &mut self.context.told);
+            flush(server, &mut self.context.told);
             let is_any = self.do_mail();
             let left = self.context.sweep_some(sweeps);
             if !is_any && left == sweeps && self.context.closing.is_empty() {

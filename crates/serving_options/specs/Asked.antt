@@ -1,8 +1,8 @@
 -- Limits of what a server is started with: this project's own choice.
 use Rattle.std.specs.Prelude.{◌≡◌, ◌≤◌, ⊤, None, IsSome}
 use Rattle.serving_options.specs.declared.command_line.ServeOptions.{ServeOptions}
-use Rattle.serving_options.specs.declared.command_line.Asked.{Asked}
-use Rattle.serving_options.specs.declared.command_line.Asked.TheVariants.{Play, Serve, Check, Account}
+use Rattle.serving_options.specs.declared.command_line.Subcommand.{Subcommand}
+use Rattle.serving_options.specs.declared.command_line.Subcommand.TheVariants.{Play, Serve, Check, Account}
 
 pub record IsWithinLimits (o : ServeOptions) : Type 0 where
   pub some_workers : 1 ≤ o.workers
@@ -20,13 +20,13 @@ pub record IsWithinLimits (o : ServeOptions) : Type 0 where
 abbrev pub IsSomewhere : ServeOptions → Type 0
 IsSomewhere o = o.tcp ≡ None → IsSome o.ws
 
-abbrev pub IsAskedWithinLimits : Asked → Type 0
+abbrev pub IsAskedWithinLimits : Subcommand → Type 0
 IsAskedWithinLimits Play = ⊤
 IsAskedWithinLimits (Serve o) = IsWithinLimits o
 IsAskedWithinLimits (Check o) = IsWithinLimits o
 IsAskedWithinLimits (Account name) = ⊤
 
-abbrev pub IsAskedSomewhere : Asked → Type 0
+abbrev pub IsAskedSomewhere : Subcommand → Type 0
 IsAskedSomewhere Play = ⊤
 IsAskedSomewhere (Serve o) = IsSomewhere o
 IsAskedSomewhere (Check o) = IsSomewhere o

@@ -21,7 +21,12 @@ fn digest_of(salt: &[u8], password: &[u8]) -> [u8; 32]
 }
 
 /// A name, a salt and a digest, parted by spaces.
-fn spelled(alloc: Global, name: &[u8], salt: &[u8], password: &[u8]) -> Result<Octets, AllocError>
+fn spell_line(
+    alloc: Global,
+    name: &[u8],
+    salt: &[u8],
+    password: &[u8],
+) -> Result<Octets, AllocError>
     ensures { IfOk result (λ line. line ≡ account_line name.now salt.now password.now) }
 {
     let digits = hex::encode(alloc, digest_of(salt, password))?;
@@ -65,7 +70,7 @@ pub fn account_line(
     ensures fault { IfErr result (λ e. (e ≡ fault.Memory)
         ⊎ IsFaultOf name.now password.now (account_line name.now salt.now password.now) e) }
 {
-    let line = spelled(alloc, name, salt, password)?;
+    let line = spell_line(alloc, name, salt, password)?;
     if lets_in(alloc, line.as_slice(), name, password)? {
         Ok(line)
     } else {

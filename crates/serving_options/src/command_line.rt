@@ -11,7 +11,7 @@ use std::net::SocketAddr;
 
 /// What a command line asks for.
 #[derive(Clone, Copy, Debug, PartialEq)]
-pub enum Asked<'a> {
+pub enum Subcommand<'a> {
     /// To play the script on standard input.
     Play,
     /// To serve clients.
@@ -262,19 +262,21 @@ pub fn parse<'a, S: AsStr>(
     alloc: Global,
     words: &'a [S],
     script: &'a str,
-) -> Result<Asked<'a>, Error>
+) -> Result<Subcommand<'a>, Error>
     ensures limits { IfOk result IsAskedWithinLimits }
     ensures somewhere { IfOk result IsAskedSomewhere }
 {
     let matches = whole_command(alloc, script)?.try_get_matches_from(words)?;
     match matches.subcommand() {
         Some(("serve", matches)) => {
-            Ok(Asked::Serve(serve_options(alloc, "halld serve", matches)?))
+            Ok(Subcommand::Serve(serve_options(alloc, "halld serve", matches)?))
         }
         Some(("check", matches)) => {
-            Ok(Asked::Check(serve_options(alloc, "halld check", matches)?))
+            Ok(Subcommand::Check(serve_options(alloc, "halld check", matches)?))
         }
-        Some(("account", matches)) => Ok(Asked::Account(matches.get_str("NAME").unwrap_or(""))),
-        _ => Ok(Asked::Play),
+        Some(("account", matches)) => Ok(Subcommand::Account(
+            matches.get_str("NAME").unwrap_or(""),
+        )),
+        _ => Ok(Subcommand::Play),
     }
 }

@@ -12,7 +12,7 @@ const MOTDLEN: usize = 400;
 
 /// What is wrong with a line of the message of the day.
 #[derive(Clone, Copy, Debug, PartialEq)]
-pub enum LineFault {
+pub enum TextFault {
     /// It has more than 400 octets.
     TooLong,
     /// It ends with CR, as lines of files do that were written on another system.
@@ -40,17 +40,17 @@ fn is_text(line: &[u8]) -> bool
 }
 
 /// What is wrong with a line of the message of the day, if anything is.
-pub fn fault_of_line(line: &[u8]) -> Option<LineFault>
+pub fn fault_of_line(line: &[u8]) -> Option<TextFault>
     ensures { result ≡ fault_of_line line.now }
 {
     if is_text(line) {
         None
     } else if MOTDLEN < line.len() {
-        Some(LineFault::TooLong)
+        Some(TextFault::TooLong)
     } else if line.last() == Some(&b'\r') {
-        Some(LineFault::EndsWithCr)
+        Some(TextFault::EndsWithCr)
     } else {
-        Some(LineFault::HasControl)
+        Some(TextFault::HasControl)
     }
 }
 

@@ -54,7 +54,7 @@ fn copies(alloc: Global, texts: &[&[u8]]) -> Result<Vec<Octets>, AllocError>
 {
     let mut copies = Vec::new(alloc);
     for text in texts {
-        copies.push(Octets::copied(alloc, text)?)?;
+        copies.push(Octets::copy_of(alloc, text)?)?;
     }
     Ok(copies)
 }

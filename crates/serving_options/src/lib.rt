@@ -7,6 +7,6 @@ mod faults;
 mod files;
 
 pub use account::account_line;
-pub use command_line::{Asked, ServeOptions, parse};
-pub use faults::{LineFault, fault_of_line, faulty_line};
+pub use command_line::{ServeOptions, Subcommand, parse};
+pub use faults::{TextFault, fault_of_line, faulty_line};
 pub use files::{FileFault, accounts_of, content_of, motd_of};

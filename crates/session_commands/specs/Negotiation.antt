@@ -1,7 +1,7 @@
 -- What CAP and AUTHENTICATE do: IRCv3 Capability Negotiation and SASL 3.1.
 use Rattle.std.specs.Prelude.{ℕ, Bool, true, false, List, [], ◌∷◌, ◌++◌, map, codes, Some, None, if◌then◌else◌}
 use Rattle.numerics.specs.declared.numeric.Numeric.TheVariants as numeric
-use Rattle.numerics.specs.Numerics.{spaced}
+use Rattle.numerics.specs.Numerics.{names_text}
 use Rattle.registration.specs.declared.settings.Settings.{Settings}
 use Rattle.registration.specs.declared.caps.Cap.{Cap}
 use Rattle.registration.specs.declared.caps.Cap.TheVariants.{Sasl}
@@ -17,10 +17,10 @@ use Rattle.session_commands.specs.declared.session.CapSubcommand.TheVariants.{Ls
 use Rattle.roster.specs.declared.deed.Deed.{Deed}
 use Rattle.roster.specs.declared.deed.Deed.TheVariants as deed
 use Rattle.roster.specs.LookBack.{nick, caps, enrol}
-use Rattle.drafts.specs.declared.effect.Effect.{Effect}
-use Rattle.drafts.specs.declared.effect.Effect.TheVariants.{Establish, Answer}
-use Rattle.drafts.specs.Lines.{title, prefix, cap_line, go_on_line}
-use Rattle.drafts.specs.Replies.{tells}
+use Rattle.transactions.specs.declared.effect.Effect.{Effect}
+use Rattle.transactions.specs.declared.effect.Effect.TheVariants.{Establish, Answer}
+use Rattle.transactions.specs.Lines.{title, prefix, cap_line, go_on_line}
+use Rattle.transactions.specs.Replies.{tells}
 
 -- ---- CAP
 
@@ -31,7 +31,7 @@ cap_text shows_values cap = cap_name cap
 
 -- names of capabilities, sorted
 abbrev pub cap_list : Bool → List Cap → List ℕ
-cap_list shows_values cs = spaced (map (cap_text shows_values) cs)
+cap_list shows_values cs = names_text (map (cap_text shows_values) cs)
 
 abbrev pub lists : Settings → List Deed → ℕ → List ℕ → List ℕ → Effect
 lists g fs s subcommand list = Answer (cap_line g.server (title (nick fs s)) subcommand list)
@@ -40,15 +40,15 @@ lists g fs s subcommand list = Answer (cap_line g.server (title (nick fs s)) sub
 abbrev pub waits : List Deed → ℕ → List Effect
 waits fs s = if holds (enrol fs s) then Establish (deed.HoldSet s true) ∷ [] else []
 
-abbrev pub requested : Settings → List Deed → ℕ → List (List ℕ) → CapAnswer → List Effect
-requested g fs s words (Acknowledged new) = lists g fs s (codes "ACK") (spaced words)
+abbrev pub answers_req : Settings → List Deed → ℕ → List (List ℕ) → CapAnswer → List Effect
+answers_req g fs s words (Acknowledged new) = lists g fs s (codes "ACK") (names_text words)
     ∷ Establish (deed.CapsSet s new) ∷ []
-requested g fs s words Refused = lists g fs s (codes "NAK") (spaced words) ∷ []
+answers_req g fs s words Refused = lists g fs s (codes "NAK") (names_text words) ∷ []
 
 abbrev pub negotiates : Settings → List Deed → ℕ → CapSubcommand → List Effect
 negotiates g fs s (Ls shows_values) = lists g fs s (codes "LS") (cap_list shows_values all_caps) ∷ waits fs s
 negotiates g fs s ListCaps = lists g fs s (codes "LIST") (cap_list false (list_of (caps fs s))) ∷ []
-negotiates g fs s (Req words) = requested g fs s words (cap_answer (enrol fs s) words) ++ waits fs s
+negotiates g fs s (Req words) = answers_req g fs s words (cap_answer (enrol fs s) words) ++ waits fs s
 negotiates g fs s End = Establish (deed.HoldSet s false) ∷ []
 
 -- ---- AUTHENTICATE

@@ -13,11 +13,11 @@ use Rattle.registration.specs.Enrol.{nick_answer, user_answer, is_ready}
 use Rattle.roster.specs.declared.deed.Deed.{Deed}
 use Rattle.roster.specs.declared.deed.Deed.TheVariants.{NickSet, UserSet, ExchangeSet, Enrolled, Ended}
 use Rattle.roster.specs.LookBack.{after, registered, exchange, enrol, holder, sharers}
-use Rattle.drafts.specs.declared.effect.Effect.{Effect}
-use Rattle.drafts.specs.declared.effect.Effect.TheVariants.{Establish, Show}
-use Rattle.drafts.specs.Effects.{deeds_of}
-use Rattle.drafts.specs.Lines.{prefix, nick_line}
-use Rattle.drafts.specs.Replies.{tells, tells_all}
+use Rattle.transactions.specs.declared.effect.Effect.{Effect}
+use Rattle.transactions.specs.declared.effect.Effect.TheVariants.{Establish, Show}
+use Rattle.transactions.specs.Effects.{deeds_of}
+use Rattle.transactions.specs.Lines.{prefix, nick_line}
+use Rattle.transactions.specs.Replies.{tells, tells_all}
 use Rattle.session_commands.specs.Welcome.{welcome_numerics}
 
 -- ---- NICK
@@ -80,5 +80,5 @@ abbrev pub registers : Settings → List Deed → ℕ → List Effect
 registers g fs s = aborts g fs s (exchange fs s) ++ enrolls g (after fs (deeds_of (aborts g fs s (exchange fs s)))) s
 
 -- a session that is ready, and isn't registered yet, is registered
-abbrev pub completed : Settings → List Deed → ℕ → List Effect
-completed g fs s = if is_ready (enrol fs s) then registers g fs s else []
+abbrev pub if_ready : Settings → List Deed → ℕ → List Effect
+if_ready g fs s = if is_ready (enrol fs s) then registers g fs s else []

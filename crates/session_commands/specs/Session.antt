@@ -17,9 +17,9 @@ use Rattle.command_params.specs.Lists.{words_of}
 use Rattle.command_params.specs.Params.{first_or_empty, needs_more}
 use Rattle.registration.specs.declared.settings.Settings.{Settings}
 use Rattle.roster.specs.declared.deed.Deed.{Deed}
-use Rattle.drafts.specs.declared.effect.Effect.{Effect}
-use Rattle.drafts.specs.declared.effect.Effect.TheVariants.{Answer}
-use Rattle.drafts.specs.Lines.{pong_line}
+use Rattle.transactions.specs.declared.effect.Effect.{Effect}
+use Rattle.transactions.specs.declared.effect.Effect.TheVariants.{Answer}
+use Rattle.transactions.specs.Lines.{pong_line}
 use Rattle.session_commands.specs.Registration.{takes_nick, introduces, passes, quits}
 use Rattle.session_commands.specs.Negotiation.{negotiates, authenticates}
 
@@ -68,12 +68,12 @@ abbrev pub user_name : List ℕ → List ℕ
 user_name u = take 16 (filter is_user_octet u)
 
 -- a real name is cut to 100 octets
-abbrev pub told : List ℕ → List ℕ → Result SessionCommand ReadFault
-told u real = cond (is_empty (user_name u)) (needs_more name.User) (Ok (User (user_name u) (take 100 real)))
+abbrev pub user_with : List ℕ → List ℕ → Result SessionCommand ReadFault
+user_with u real = cond (is_empty (user_name u)) (needs_more name.User) (Ok (User (user_name u) (take 100 real)))
 
 -- four parameters, the second and third of which are ignored
 abbrev pub user_command : List (List ℕ) → Result SessionCommand ReadFault
-user_command (u ∷ mode ∷ unused ∷ real ∷ ps) = told u real
+user_command (u ∷ mode ∷ unused ∷ real ∷ ps) = user_with u real
 user_command ps = needs_more name.User
 
 abbrev pub ping_command : List (List ℕ) → Result SessionCommand ReadFault

@@ -3,22 +3,22 @@
 ghost use Rattle.std.specs.Prelude.{◌≡◌, ◌∷◌, ◌≤◌, [], ℕ, List, length, IfOk, OnOk, MatchOption};
 ghost use Rattle.std.specs.List.{list_any};
 ghost use Rattle.roster.specs.Legal.{IsOpened};
-ghost use Rattle.drafts.specs.declared.effect.Effect.TheVariants.{Answer};
-ghost use Rattle.drafts.specs.Words.{grown, pong_line};
+ghost use Rattle.transactions.specs.declared.effect.Effect.TheVariants.{Answer};
+ghost use Rattle.transactions.specs.Words.{grown, pong_line};
 ghost use Rattle.line_grammar.specs.Parts.{is_present};
 ghost use Rattle.command_params.specs.Params.{IsRead};
 ghost use Rattle.session_commands.specs.Session.{cap_req, cap_subcommand, cap_command};
 ghost use Rattle.session_commands.specs.Session.{authenticate_command, pass_command, nick_command};
 ghost use Rattle.session_commands.specs.Session.{is_user_octet, user_name, user_command, ping_command, quit_command};
-ghost use Rattle.session_commands.specs.Session.{serves_session, shows_values, told};
+ghost use Rattle.session_commands.specs.Session.{serves_session, shows_values, user_with};
 
 use crate::enrolling::{introduce, pass, quit, take_nick};
 use crate::negotiation::{authenticate, negotiate};
 use chronicle::SessionId;
 use command_params::{CommandName, ReadFault, first, into_first, is_named, needs_more, read_words};
-use drafts::{Draft, pong_line};
 use line_grammar::{LineMessage, LineParameters, Octets, OctetsList};
 use std::alloc::{AllocError, Global};
+use transactions::{Transaction, pong_line};
 
 /// What CAP asks for (IRCv3 Capability Negotiation).
 #[derive(Drop)]
@@ -187,8 +187,8 @@ fn usable(alloc: Global, user: &[u8]) -> Result<Octets, AllocError>
     Ok(Octets::from_vec(kept))
 }
 
-fn told(alloc: Global, user: &[u8], real: &[u8]) -> Result<SessionCommand, ReadFault>
-    ensures { IsRead (told user.now real.now) result }
+fn new_user(alloc: Global, user: &[u8], real: &[u8]) -> Result<SessionCommand, ReadFault>
+    ensures { IsRead (user_with user.now real.now) result }
 {
     if !has_usable(user) {
         return Err(needs_more(CommandName::User));
@@ -217,7 +217,7 @@ pub fn read_user(alloc: Global, params: &LineParameters<'_>) -> Result<SessionCo
     ensures { IsRead (user_command params.now) result }
 {
     match user_and_real(params) {
-        Some((user, real)) => told(alloc, user, real),
+        Some((user, real)) => new_user(alloc, user, real),
         None => Err(needs_more(CommandName::User)),
     }
 }
@@ -242,34 +242,34 @@ pub fn read_quit(alloc: Global, message: LineMessage<'_>) -> Result<SessionComma
 }
 
 /// Answers PING.
-fn pong(draft: &mut Draft, token: &[u8]) -> Result<(), AllocError>
-    ensures { OnOk result (draft.new
-        ≡ grown draft.old (Answer (pong_line draft.old.settings.server token.now) ∷ [])) }
+fn pong(tx: &mut Transaction, token: &[u8]) -> Result<(), AllocError>
+    ensures { OnOk result (tx.new
+        ≡ grown tx.old (Answer (pong_line tx.old.settings.server token.now) ∷ [])) }
 {
-    let server = draft.before().settings().server.as_slice();
-    let line = pong_line(draft.alloc(), server, token)?;
-    draft.answer(line)
+    let server = tx.before().settings().server.as_slice();
+    let line = pong_line(tx.alloc(), server, token)?;
+    tx.answer(line)
 }
 
 /// Does what a session's own command asks for.
 pub fn serve_session(
-    draft: &mut Draft,
+    tx: &mut Transaction,
     session: SessionId,
     command: &SessionCommand,
 ) -> Result<(), AllocError>
-    requires opened { IsOpened draft.old.facts session }
-    requires first { draft.old.facts ≡ draft.old.base }
-    ensures { OnOk result (draft.new
-        ≡ grown draft.old (serves_session draft.old.settings draft.old.facts session command.now)) }
+    requires opened { IsOpened tx.old.facts session }
+    requires first { tx.old.facts ≡ tx.old.base }
+    ensures { OnOk result (tx.new
+        ≡ grown tx.old (serves_session tx.old.settings tx.old.facts session command.now)) }
 {
     match command {
-        SessionCommand::Cap(subcommand) => negotiate(draft, session, subcommand),
-        SessionCommand::Authenticate { piece } => authenticate(draft, session, piece.as_slice()),
-        SessionCommand::Pass => pass(draft, session),
-        SessionCommand::Nick { nick } => take_nick(draft, session, nick),
-        SessionCommand::User { user, real } => introduce(draft, session, user, real),
-        SessionCommand::Ping { token } => pong(draft, token.as_slice()),
+        SessionCommand::Cap(subcommand) => negotiate(tx, session, subcommand),
+        SessionCommand::Authenticate { piece } => authenticate(tx, session, piece.as_slice()),
+        SessionCommand::Pass => pass(tx, session),
+        SessionCommand::Nick { nick } => take_nick(tx, session, nick),
+        SessionCommand::User { user, real } => introduce(tx, session, user, real),
+        SessionCommand::Ping { token } => pong(tx, token.as_slice()),
         SessionCommand::Pong => Ok(()),
-        SessionCommand::Quit { text } => quit(draft, session, text),
+        SessionCommand::Quit { text } => quit(tx, session, text),
     }
 }

@@ -8,7 +8,7 @@ ghost use Rattle.session_commands.specs.Welcome.{support_numerics, welcome_numer
 
 use line_grammar::{Octets, OctetsList};
 use numerics::{Numeric, TimeFault, split_tokens, time_text, tokens};
-use query_commands::{Telling, push_motd};
+use query_commands::{ReplyBuilder, push_motd};
 use registration::Settings;
 use std::alloc::{AllocError, Global};
 
@@ -17,7 +17,7 @@ const SUPPORT_ROOM: usize = 370;
 
 /// Adds a numeric for each line of tokens.
 #[tactic(auto, using(query_commands::proofs::Told::more_more))]
-fn push_lines(telling: &mut Telling<'_>, lines: Vec<OctetsList>) -> Result<(), AllocError>
+fn push_lines(telling: &mut ReplyBuilder<'_>, lines: Vec<OctetsList>) -> Result<(), AllocError>
     ensures { OnOk result (telling.new ≡ telling_more telling.old (map ISupport lines.items)) }
 {
     for words in lines {
@@ -27,7 +27,7 @@ fn push_lines(telling: &mut Telling<'_>, lines: Vec<OctetsList>) -> Result<(), A
 }
 
 /// Adds what the server supports.
-fn push_support(alloc: Global, telling: &mut Telling<'_>) -> Result<(), AllocError>
+fn push_support(alloc: Global, telling: &mut ReplyBuilder<'_>) -> Result<(), AllocError>
     ensures { OnOk result (telling.new ≡ telling_more telling.old support_numerics) }
 {
     let tokens = tokens(alloc)?;
@@ -51,7 +51,7 @@ fn created_text(alloc: Global, settings: &Settings) -> Result<Octets, AllocError
 #[tactic(auto, using(query_commands::proofs::Told::more_more))]
 pub(crate) fn welcome(
     alloc: Global,
-    telling: &mut Telling<'_>,
+    telling: &mut ReplyBuilder<'_>,
     settings: &Settings,
     source: Octets,
 ) -> Result<(), AllocError>

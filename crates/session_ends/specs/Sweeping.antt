@@ -2,11 +2,11 @@
 use Rattle.std.specs.Prelude.{ℕ, ℤ, Option, Result}
 use Rattle.std.specs.Option.{option_map}
 use Rattle.chronicle.specs.declared.why.Why.{Why}
-use Rattle.hall.specs.Ends.{Puttings, accepts, refuses}
-use Rattle.hall.specs.Done.{Done}
-use Rattle.hall.specs.SweepRefusal.{SweepRefusal}
-use Rattle.hall.specs.Ledger.{Shown, to_sweep, ended_for}
-use Rattle.hall.specs.Outcomes.{IsSweepOutcome}
+use Rattle.book.specs.Ends.{Puttings, accepts, refuses}
+use Rattle.book.specs.Done.{Done}
+use Rattle.book.specs.SweepRefusal.{SweepRefusal}
+use Rattle.book.specs.Ledger.{Shown, to_sweep, ended_for}
+use Rattle.book.specs.Outcomes.{IsSweepOutcome}
 
 abbrev pub Sweeps : Shown Puttings → Shown Puttings → ℤ → Result (Option Done) SweepRefusal → Type 0
 Sweeps old new moment answer = IsSweepOutcome accepts refuses old new moment answer

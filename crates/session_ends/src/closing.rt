@@ -1,24 +1,24 @@
 //! The end of a session.
 ghost use Rattle.std.specs.Prelude.{◌≡◌, ℤ, All, Some, IfOk, IfErr, IfSome, OnOk, OnErr};
-ghost use Rattle.hall.specs.Ledger.{reaped};
-ghost use Rattle.hall.specs.Reaping.{IsReapRefusal};
+ghost use Rattle.book.specs.Ledger.{after_reap};
+ghost use Rattle.book.specs.Reaping.{IsReapRefusal};
 ghost use Rattle.chronicle.specs.History.{last_moment};
 ghost use Rattle.session_ends.specs.Sweeping.{Sweeps, ended_next};
 ghost use Rattle.session_ends.specs.Timing.{IsLater};
 
+use crate::disconnecting::shut_missed;
+use crate::flushing::{flush, flush_many};
 use crate::server::{Host, Server, later};
-use crate::shutting::shut_missed;
-use crate::telling::{tell, tell_many};
+use book::outbox::{ChannelName, Sender, Writer};
+use book::{Baton, Done, FlushList, Hall, Left, Naming, ReapRefusal, Stub, SweepRefusal};
 use chronicle::{Moment, SessionId, Why};
-use ghosts::Snapshot;
-use hall::outbox::{ChannelName, Sender, Writer};
-use hall::{Baton, Done, Hall, Left, Naming, ReapRefusal, Stub, SweepRefusal, Told};
+use snapshots::Snapshot;
 use std::alloc::Global;
 use std::sync::Wait;
 
 /// What came of a sweep, with the hall before that and after it, which exist for clauses alone.
 #[derive(Drop)]
-pub struct Swept<L: Naming, R: Wait + Drop> {
+pub struct SweepOutcome<L: Naming, R: Wait + Drop> {
     pub answer: Result<Option<Done>, SweepRefusal>,
     /// Who was to be swept next, if anybody was, and why that session ended.
     pub ended: Option<(SessionId, Why)>,
@@ -32,22 +32,22 @@ pub struct Swept<L: Naming, R: Wait + Drop> {
 fn sweep_in<L: Naming, R: Wait + Drop>(
     hall: &mut Hall<L, Sender<R>>,
     moment: Moment,
-    told: &mut Told,
-) -> Swept<L, R>
+    flushes: &mut FlushList,
+) -> SweepOutcome<L, R>
     ensures sweeps { Sweeps result.before.value result.after.value result.moment result.answer }
     ensures ended { result.ended ≡ ended_next result.before.value }
     ensures moment { IsLater moment (last_moment result.before.value.history) result.moment }
 {
     let moment = later(moment, hall.last_moment());
-    told.begin();
+    flushes.begin();
     let ended = match hall.next_to_sweep() {
         Some(session) => Some((session, hall.why_of(session))),
         None => None,
     };
     let before = Snapshot::of(&*hall);
-    let answer = hall.sweep_told(moment, told);
+    let answer = hall.sweep_with_flushes(moment, flushes);
     let after = Snapshot::of(&*hall);
-    Swept {
+    SweepOutcome {
         answer,
         ended,
         moment,
@@ -57,7 +57,7 @@ fn sweep_in<L: Naming, R: Wait + Drop>(
 }
 
 /// Sweeps the first session that is shut and isn't gone, by a record that tells those who share a channel with it,
-/// and shuts whoever missed that. Who got something is added to `told`.
+/// and shuts whoever missed that. Who got something is added to `flushes`.
 ///
 /// The answer tells what came of it in the server's hall, at a moment that the clock showed or at that of the newest
 /// record where that is later: the record; that nobody was to be swept; or why there is none. It tells, too, whom that
@@ -65,8 +65,8 @@ fn sweep_in<L: Naming, R: Wait + Drop>(
 pub fn sweep<L: Naming, R: Wait + Drop, H: Host>(
     rt: &R,
     server: &Server<'_, L, R, H>,
-    told: &mut Told,
-) -> Swept<L, R>
+    flushes: &mut FlushList,
+) -> SweepOutcome<L, R>
     ensures sweeps { Sweeps result.before.value result.after.value result.moment result.answer }
     ensures ended { result.ended ≡ ended_next result.before.value }
     ensures moment { (t : ℤ) × H.shows server.now.host.now t
@@ -75,8 +75,8 @@ pub fn sweep<L: Naming, R: Wait + Drop, H: Host>(
         (λ o. IfSome o (λ d. All (H.shuts server.now.host.now) d.missed)) }
 {
     let moment = server.host.now();
-    let swept = sweep_in(&mut *server.hall.lock(rt), moment, told);
-    tell_many(server, told);
+    let swept = sweep_in(&mut *server.hall.lock(rt), moment, flushes);
+    flush_many(server, flushes);
     if let Ok(Some(done)) = &swept.answer {
         shut_missed(server.host, done);
     }
@@ -87,20 +87,20 @@ pub fn sweep<L: Naming, R: Wait + Drop, H: Host>(
 fn sweep_all<L: Naming, R: Wait + Drop, H: Host>(
     rt: &R,
     server: &Server<'_, L, R, H>,
-    told: &mut Told,
+    flushes: &mut FlushList,
 ) {
     for _ in rt.forever() {
-        if !matches!(sweep(rt, server, told).answer, Ok(Some(_))) {
+        if !matches!(sweep(rt, server, flushes).answer, Ok(Some(_))) {
             break;
         }
     }
-    tell(server, told);
+    flush(server, flushes);
 }
 
 /// What came of giving a session up: what is left of it, or why it can't be given up yet, with its three tokens. The
 /// halls before and after exist for clauses alone.
 #[derive(Drop)]
-pub struct GivenUp<L: Naming, R: Wait + Drop> {
+pub struct ReapOutcome<L: Naming, R: Wait + Drop> {
     pub left: Result<
         Left<L>,
         (
@@ -125,11 +125,11 @@ pub fn give_up<L: Naming, R: Wait + Drop, H: Host>(
     baton: Baton<L, Sender<R>>,
     stub: Stub<L, ChannelName>,
     writer: Writer,
-) -> GivenUp<L, R>
+) -> ReapOutcome<L, R>
     requires one { stub.session ≡ baton.session }
     requires own { stub.outbox ≡ Some writer.channel }
     ensures ok { OnOk result.left
-        (result.after.value ≡ reaped result.before.value baton.session) }
+        (result.after.value ≡ after_reap result.before.value baton.session) }
     ensures session { IfOk result.left (λ left. left.session ≡ baton.session) }
     ensures refusal { IfErr result.left
         (λ e. IsReapRefusal result.before.value baton.session stub.session e.0) }
@@ -141,7 +141,7 @@ pub fn give_up<L: Naming, R: Wait + Drop, H: Host>(
     let before = Snapshot::of(&*hall);
     let left = hall.reap(baton, stub, writer);
     let after = Snapshot::of(&*hall);
-    GivenUp {
+    ReapOutcome {
         left,
         before,
         after,
@@ -149,7 +149,7 @@ pub fn give_up<L: Naming, R: Wait + Drop, H: Host>(
 }
 
 /// Sweeps all who are shut, and gives a session up with its tokens, as `give_up` does. Who got something stands in
-/// `told` then, or was told.
+/// `flushes` then, or was told.
 ///
 /// What comes back is of the baton's session, which so was swept and reaped; or the tokens are those that were given.
 pub fn close_now<L: Naming, R: Wait + Drop, H: Host>(
@@ -158,7 +158,7 @@ pub fn close_now<L: Naming, R: Wait + Drop, H: Host>(
     baton: Baton<L, Sender<R>>,
     stub: Stub<L, ChannelName>,
     writer: Writer,
-    told: &mut Told,
+    flushes: &mut FlushList,
 ) -> Result<Left<L>, (Baton<L, Sender<R>>, Stub<L, ChannelName>, Writer)>
     requires one { stub.session ≡ baton.session }
     requires own { stub.outbox ≡ Some writer.channel }
@@ -166,8 +166,8 @@ pub fn close_now<L: Naming, R: Wait + Drop, H: Host>(
     ensures back { IfErr result
         (λ tokens. (tokens.0 ≡ baton) × (tokens.1 ≡ stub) × (tokens.2 ≡ writer)) }
 {
-    sweep_all(rt, server, told);
-    let GivenUp { left, .. } = give_up(rt, server, baton, stub, writer);
+    sweep_all(rt, server, flushes);
+    let ReapOutcome { left, .. } = give_up(rt, server, baton, stub, writer);
     match left {
         Ok(left) => Ok(left),
         Err((_, baton, stub, writer)) => Err((baton, stub, writer)),
@@ -190,11 +190,11 @@ pub fn close_up<L: Naming, R: Wait + Drop, H: Host>(
     requires own { stub.outbox ≡ Some writer.channel }
     ensures session { result.session ≡ baton.session }
 {
-    let mut told = Told::new(alloc);
+    let mut flushes = FlushList::new(alloc);
     let mut tokens = (baton, stub, writer);
     for _ in rt.forever() {
         let (baton, stub, writer) = tokens;
-        match close_now(rt, server, baton, stub, writer, &mut told) {
+        match close_now(rt, server, baton, stub, writer, &mut flushes) {
             Ok(left) => return left,
             Err(again) => tokens = again,
         }

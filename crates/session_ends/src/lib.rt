@@ -5,12 +5,12 @@
 #![tactic(auto)]
 
 mod closing;
+mod disconnecting;
+mod flushing;
 mod server;
-mod shutting;
-mod telling;
 
-pub use closing::{GivenUp, Swept, close_now, close_up, give_up, sweep};
-pub use hall;
+pub use book;
+pub use closing::{ReapOutcome, SweepOutcome, close_now, close_up, give_up, sweep};
+pub use disconnecting::{HangOutcome, end_refused, hang, hang_at, shut_after, shut_missed};
+pub use flushing::{are_many, flush, flush_many};
 pub use server::{Clock, Gate, Host, Server, Sockets, later, moment_in};
-pub use shutting::{Ending, end_refused, hang, hang_at, shut_missed, shut_those};
-pub use telling::{are_many, tell, tell_many};

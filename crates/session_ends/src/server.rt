@@ -2,9 +2,9 @@
 ghost use Rattle.chronicle.specs.History.{last_moment};
 ghost use Rattle.session_ends.specs.Timing.{IsLater};
 
+use book::outbox::Sender;
+use book::{FlushList, Hall, Naming};
 use chronicle::{Moment, SessionId};
-use hall::outbox::Sender;
-use hall::{Hall, Naming, Told};
 use std::sync::{Mutex, Wait};
 
 /// Stands before the lock of the hall.
@@ -21,7 +21,7 @@ pub trait Gate {
 /// implementation to say.
 pub trait Sockets {
     ghost use Rattle.std.specs.Prelude.{◌≡◌, ℕ, true};
-    ghost use Rattle.hall.specs.Telling.{Telling};
+    ghost use Rattle.book.specs.Flushes.{FlushView};
 
     /// That a session was shut here.
     ghost shuts: { Self → ℕ → Type 0 } = { λ s t. Unit {0} };
@@ -30,7 +30,7 @@ pub trait Sockets {
     ghost finds_shut: { Self → ℕ → Type 0 } = { λ s t. Unit {0} };
 
     /// That all on a list were told here.
-    ghost tells: { Self → Telling → Type 0 } = { λ s w. Unit {0} };
+    ghost tells: { Self → FlushView → Type 0 } = { λ s w. Unit {0} };
 
     /// That the server was asked to stop.
     ghost stops: { Self → Type 0 } = { λ s. Unit {0} };
@@ -44,14 +44,14 @@ pub trait Sockets {
         ensures { result ≡ true → finds_shut self.now session };
 
     /// Sees to it that what waits for all who are told is written.
-    fn tell(&self, told: &Told)
-        ensures { tells self.now told.now };
+    fn flush(&self, flushes: &FlushList)
+        ensures { tells self.now flushes.now };
 
     /// Waits a little.
     fn pause(&self);
 
     /// The journal was rolled for a record, and so many records were dropped. The hall is held meanwhile.
-    fn rolled(&self, dropped: usize);
+    fn note_roll(&self, dropped: usize);
 
     /// Asks the server to stop.
     fn stop(&self)

@@ -7,8 +7,8 @@ use Rattle.std.specs.Prelude.{Result, Ok, Err, OnOk}
 use Rattle.std.specs.Io.KnownBytes.{Consumes}
 use Rattle.std.specs.List.{flat_map}
 use Rattle.line_grammar.specs.declared.splitter.Piece.{Piece}
-use Rattle.line_grammar.specs.Lines.{is_line_end, longer, ended, piece_of, lines, left_by}
-use Rattle.intakes.specs.Taking.{TakesIn, Taken}
+use Rattle.line_grammar.specs.Lines.{is_line_end, longer, ended_lines, piece_of, lines, left_by}
+use Rattle.receive_buffer.specs.Taking.{TakesIn, Taken}
 use Rattle.session_io.specs.Doing.{DoesRead}
 use Rattle.session_io.specs.Filling.{DoesPieces, Fills}
 
@@ -84,14 +84,16 @@ longer_more : (b : ℕ) (xs ys : List (List ℕ)) → (zs : List (List ℕ)) × 
 longer_more b [] ys = (longer b ys, refl)
 longer_more b (x ∷ xs) ys = (ys, refl)
 
-ended_more : (xs ys : List ℕ) → (zs : List (List ℕ)) × (ended (xs ++ ys) ≡ ended xs ++ zs)
-ended_more [] ys = (ended ys, refl)
+ended_more : (xs ys : List ℕ) → (zs : List (List ℕ)) × (ended_lines (xs ++ ys) ≡ ended_lines xs ++ zs)
+ended_more [] ys = (ended_lines ys, refl)
 ended_more (b ∷ bs) ys = at (is_line_end b) (ended_more bs ys)
   where
-    at : (e : Bool) → ((zs : List (List ℕ)) × (ended (bs ++ ys) ≡ ended bs ++ zs)) → (zs : List (List ℕ)) × (cond e
-        ([] ∷ ended (bs ++ ys)) (longer b (ended (bs ++ ys))) ≡ cond e ([] ∷ ended bs) (longer b (ended bs)) ++ zs)
+    at : (e : Bool) → ((zs : List (List ℕ)) × (ended_lines (bs ++ ys) ≡ ended_lines bs ++ zs)) → (zs : List (List ℕ))
+        × (cond e
+        ([] ∷ ended_lines (bs ++ ys)) (longer b (ended_lines (bs ++ ys)))
+        ≡ cond e ([] ∷ ended_lines bs) (longer b (ended_lines bs)) ++ zs)
     at true more = (more.0, ap (λ l. [] ∷ l) more.1)
-    at false more = let l = longer_more b (ended bs) more.0 in (l.0, ap (longer b) more.1 ∙ l.1)
+    at false more = let l = longer_more b (ended_lines bs) more.0 in (l.0, ap (longer b) more.1 ∙ l.1)
 
 pieces_more : (xs ys : List (List ℕ)) → flat_map piece_of (xs ++ ys) ≡ flat_map piece_of xs ++ flat_map piece_of ys
 pieces_more [] ys = refl
@@ -100,7 +102,7 @@ pieces_more (x ∷ xs) ys = ap (λ l. piece_of x ++ l) (pieces_more xs ys)
 
 lines_more : (xs ys : List ℕ) → (zs : List Piece) × (lines (xs ++ ys) ≡ lines xs ++ zs)
 lines_more xs ys = let more = ended_more xs ys in
-    (flat_map piece_of more.0, ap (flat_map piece_of) more.1 ∙ pieces_more (ended xs) more.0)
+    (flat_map piece_of more.0, ap (flat_map piece_of) more.1 ∙ pieces_more (ended_lines xs) more.0)
 
 -- no lines were left, and none came, or they were lost
 pub reads_none : (a b : Option (List ℕ)) (was now : Taken) (old : List Piece) (all : Bool) → was.pieces ≡ []

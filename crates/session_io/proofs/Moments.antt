@@ -8,14 +8,14 @@ use Rattle.chronicle.specs.declared.record.Kind.TheVariants.{Said}
 use Rattle.chronicle.specs.History.{Rec, last_moment, shut}
 use Rattle.chronicle.specs.Journal.{miss}
 use Rattle.session_ends.specs.Ends.{Puttings, accepts, refuses}
-use Rattle.session_ends.specs.Turn.{Turn, next_turn}
+use Rattle.session_ends.specs.Turn.{BatonView, next_turn}
 use Rattle.session_ends.specs.Planned.{Planned}
 use Rattle.session_ends.specs.Step.{Step}
 use Rattle.session_ends.specs.Step.TheVariants.{Put, Missed}
 use Rattle.session_ends.specs.Done.{Done}
-use Rattle.session_ends.specs.Ledger.{Shown, begun, plan_of, newest_missed, IsPutNext, IsPutAll, IsDone}
+use Rattle.session_ends.specs.Ledger.{Shown, after_begin, plan_of, newest_missed, IsPutNext, IsPutAll, IsDone}
 use Rattle.session_ends.specs.Timing.{IsLater, older, IsAt, IsNext}
-use Rattle.session_io.specs.Doing.{TellsOf, IsSeenTo}
+use Rattle.session_io.specs.Doing.{TellsOfNewest, IsSeenTo}
 
 -- two histories with the same records but for who missed the newest
 record AreLike (h k : List Rec) : Type 0 where
@@ -53,9 +53,9 @@ put_all m k (q ∷ qs) p = like_then m.history p.0.history k.history (put_next m
     (put_all p.0 k qs p.3)
 
 done_like : (m k : Shown Puttings) (kind : Kind) (moment : ℤ) → IsDone accepts refuses m kind moment k
-    → AreLike (begun m kind moment).history k.history
+    → AreLike (after_begin m kind moment).history k.history
 done_like m k kind moment d =
-    let b = begun m kind moment in
+    let b = after_begin m kind moment in
     like_then b.history d.0.history k.history (put_all b d.0 (plan_of m.settings m.history kind moment
     (length m.outboxes)) d.1) (like_itself d.0.history k.history (ap (λ n. n.history) d.2))
 
@@ -70,7 +70,7 @@ done_next m k kind moment front d is =
 pub done_tells : (m k : Shown Puttings) (kind : Kind) (moment : ℤ) (front : List Rec) (session : ℕ) (d : Done)
     → IsDone accepts refuses m kind moment k → front ≡ k.history
     → d.number ≡ length m.history + 1 → d.missed ≡ newest_missed k.history → d.shut ≡ shut k.history session
-    → TellsOf d front session
+    → TellsOfNewest d front session
 done_tells m k kind moment front session d done is number missed shut_ = record {
   number = number ∙ add-one (length m.history)
       ∙ sym (ap (λ (l : List Rec). length l) is ∙ (done_like m k kind moment done).count);
@@ -79,16 +79,16 @@ done_tells m k kind moment front session d done is number missed shut_ = record 
 }
 
 -- what comes of a line: its piece is the newest of those done, at its moment; or the baton is the old one
-pub record IsSaid {E : Type 0} (h : List Rec) (b c : Turn) (piece : Piece) (moment : ℤ) (answer : Result Done E)
+pub record IsSaid {E : Type 0} (h : List Rec) (b c : BatonView) (piece : Piece) (moment : ℤ) (answer : Result Done E)
     : Type 0 where
   pub done : OnOk answer (c.pieces ≡ b.pieces ++ piece ∷ [])
   pub refused : OnErr answer (c ≡ b)
   pub session : c.session ≡ b.session
-  pub told : IfOk answer (λ d. TellsOf d c.front c.session)
+  pub told : IfOk answer (λ d. TellsOfNewest d c.front c.session)
   pub next : OnOk answer (IsNext moment h c.front)
 
 -- what came of a call of a hall, as it is told of a line
-pub line_said : {E : Type 0} (m k : Shown Puttings) (b c : Turn) (piece : Piece) (moment : ℤ)
+pub line_said : {E : Type 0} (m k : Shown Puttings) (b c : BatonView) (piece : Piece) (moment : ℤ)
     (answer : Result Done E)
     → OnOk answer (IsDone accepts refuses m (Said b.session b.next piece) moment k)
     → OnOk answer (c ≡ next_turn b piece k.history)
@@ -98,10 +98,10 @@ pub line_said : {E : Type 0} (m k : Shown Puttings) (b c : Turn) (piece : Piece)
     → OnErr answer ((k ≡ m) × (c ≡ b)) → IsSaid m.history b c piece moment answer
 line_said m k b c piece moment (Ok d) done baton number missed shut_ err =
     let kind = Said b.session b.next piece in
-    let front = ap (λ (t : Turn). t.front) baton in
-    let session = ap (λ (t : Turn). t.session) baton in
+    let front = ap (λ (t : BatonView). t.front) baton in
+    let session = ap (λ (t : BatonView). t.session) baton in
     record {
-      done = ap (λ (t : Turn). t.pieces) baton;
+      done = ap (λ (t : BatonView). t.pieces) baton;
       refused = tt;
       session = session;
       told = done_tells m k kind moment c.front c.session d done front number missed
@@ -111,7 +111,7 @@ line_said m k b c piece moment (Ok d) done baton number missed shut_ err =
 line_said m k b c piece moment (Err e) done baton number missed shut_ err = record {
   done = tt;
   refused = err.1;
-  session = ap (λ (t : Turn). t.session) err.1;
+  session = ap (λ (t : BatonView). t.session) err.1;
   told = tt;
   next = tt;
 }
@@ -124,8 +124,8 @@ at_later a moment h front later next =
     (subst (λ (l : List Rec). IsLater a (last_moment l) moment) (sym next.older) later)
 
 -- a line that was done at a moment that the clock showed, and whom it shut was shut
-pub seen_to : (shows : ℤ → Type 0) (shuts : ℕ → Type 0) (b : Turn) (clock : ℤ) (d : Done) (session : ℕ)
-    → b.session ≡ session → shows clock → IsAt clock b.front → TellsOf d b.front b.session
+pub seen_to : (shows : ℤ → Type 0) (shuts : ℕ → Type 0) (b : BatonView) (clock : ℤ) (d : Done) (session : ℕ)
+    → b.session ≡ session → shows clock → IsAt clock b.front → TellsOfNewest d b.front b.session
     → All shuts d.missed → (d.shut ≡ true → shuts session) → IsSeenTo shows shuts b
 seen_to shows shuts b clock d session whose shown at told missed own = record {
   clock = clock;

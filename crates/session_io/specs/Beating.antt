@@ -1,7 +1,7 @@
 -- What came of a tick, and of ending who is late: this project's own.
 use Rattle.std.specs.Prelude.{◌≡◌, ℤ, Option, Some, None, Result, IfSome, OnOk}
 use Rattle.chronicle.specs.declared.why.Why.TheVariants.{PingTimeout}
-use Rattle.chronicle.specs.declared.names.SessionId.{SessionId}
+use Rattle.chronicle.specs.declared.ids.SessionId.{SessionId}
 use Rattle.session_ends.specs.Ends.{Puttings, accepts, refuses}
 use Rattle.session_ends.specs.Done.{Done}
 use Rattle.session_ends.specs.Hung.{Hung}
@@ -11,7 +11,7 @@ use Rattle.session_ends.specs.Ledger.{Shown, late}
 use Rattle.session_ends.specs.Outcomes.{IsTickOutcome}
 use Rattle.session_ends.specs.Hanging.{Hangs}
 
--- a record pings whoever is quiet at this moment, or nobody is; or the cause of the refusal holds, and nothing changed
+-- a record pings whoever is idle at this moment, or nobody is; or the cause of the refusal holds, and nothing changed
 abbrev pub Ticks : Shown Puttings → Shown Puttings → ℤ → Result (Option Done) TickRefusal → Type 0
 Ticks old new moment answer = IsTickOutcome accepts refuses old new moment answer
 

@@ -4,17 +4,17 @@ use Rattle.std.specs.Io.KnownBytes.{Consumes}
 use Rattle.line_grammar.specs.declared.splitter.Piece.{Piece}
 use Rattle.line_grammar.specs.Lines.{lines, left_by}
 use Rattle.chronicle.specs.History.{Rec, shut}
-use Rattle.session_ends.specs.Turn.{Turn}
+use Rattle.session_ends.specs.Turn.{BatonView}
 use Rattle.session_ends.specs.Done.{Done as Told}
 use Rattle.session_ends.specs.Ledger.{newest_missed}
 use Rattle.session_ends.specs.Timing.{IsAt}
-use Rattle.intakes.specs.Taking.{Taken}
+use Rattle.receive_buffer.specs.Taking.{Taken}
 use Rattle.session_io.specs.declared.reading.Next.{Next}
 use Rattle.session_io.specs.declared.reading.Next.TheVariants.{More, Short, Nothing, Left, Over}
 
 -- what is told of a line is what its record says, which is the newest of this history: its number, who missed it,
 -- and whether its own session is shut
-pub record TellsOf (told : Told) (h : List Rec) (session : ℕ) : Type 0 where
+pub record TellsOfNewest (told : Told) (h : List Rec) (session : ℕ) : Type 0 where
   pub number : told.number ≡ length h
   pub missed : told.missed ≡ newest_missed h
   pub shut : told.shut ≡ shut h session
@@ -26,14 +26,14 @@ pub record AreShut (shuts : ℕ → Type 0) (h : List Rec) (session : ℕ) : Typ
 
 -- the newest line of a baton was done at a moment that the clock showed, or at that of the record before it where
 -- that is later, and whom it shut was shut
-pub record IsSeenTo (shows : ℤ → Type 0) (shuts : ℕ → Type 0) (b : Turn) : Type 0 where
+pub record IsSeenTo (shows : ℤ → Type 0) (shuts : ℕ → Type 0) (b : BatonView) : Type 0 where
   pub clock : ℤ
   pub shown : shows clock
   pub moment : IsAt clock b.front
   pub shut : AreShut shuts b.front b.session
 
 -- no line was done, or the newest was seen to
-abbrev pub IsNewestSeenTo : (ℤ → Type 0) → (ℕ → Type 0) → Turn → Turn → Type 0
+abbrev pub IsNewestSeenTo : (ℤ → Type 0) → (ℕ → Type 0) → BatonView → BatonView → Type 0
 IsNewestSeenTo shows shuts old new = (new ≡ old) ⊎ IsSeenTo shows shuts new
 
 -- of these pieces the first were done, in order, after the old ones

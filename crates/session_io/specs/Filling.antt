@@ -3,7 +3,7 @@ use Rattle.std.specs.Prelude.{◌≡◌, ℕ, Bool, true, List, [], ◌++◌, le
 use Rattle.std.specs.Io.KnownBytes.{Consumes}
 use Rattle.line_grammar.specs.declared.splitter.Piece.{Piece}
 use Rattle.line_grammar.specs.Lines.{left_by, Feeds}
-use Rattle.intakes.specs.Taking.{Taken}
+use Rattle.receive_buffer.specs.Taking.{Taken}
 use Rattle.session_io.specs.Doing.{DoesFront}
 
 -- the next octets were read, none of them where pieces were left, and the pieces that end in them come after those

@@ -4,23 +4,23 @@
 //! A call that waits owes no return. What is promised of it holds if it returns.
 #![tactic(auto)]
 
-mod ahead;
 mod backlog;
-mod beating;
+mod doing_lines;
+mod keepalive;
 mod outlet;
+mod read_ahead;
 mod reading;
-mod working;
 mod writing;
 
 pub use backlog::Backlog;
-pub use beating::{Beaten, Late, Ticked, beat, hang_late, tick};
-pub use intakes::Intake;
+pub use doing_lines::{Count, Until, do_lines, line_at, lock_soon};
+pub use keepalive::{BeatOutcome, LateOutcome, TickOutcome, beat, hang_late, tick};
 pub use outlet::{Outlet, Pumped};
 pub use reading::{Next, Took, read_some};
+pub use receive_buffer::ReceiveBuffer;
 pub use session_ends::{
-    Clock, Ending, Gate, GivenUp, Host, Server, Sockets, Swept, close_now, close_up, give_up, hall,
-    hang, moment_in, sweep, tell,
+    Clock, Gate, HangOutcome, Host, ReapOutcome, Server, Sockets, SweepOutcome, book, close_now,
+    close_up, flush, give_up, hang, moment_in, sweep,
 };
 pub use wire;
-pub use working::{Count, Until, do_lines, line_at, lock_soon};
 pub use writing::{Standing, Written, write_some};

@@ -11,8 +11,8 @@ ghost use Rattle.session_io.specs.Writing.{Pumps};
 
 use chronicle::SessionId;
 use deliveries::WriteFault;
-use ghosts::Snapshot;
-use session_ends::hall::Naming;
+use session_ends::book::Naming;
+use snapshots::Snapshot;
 use std::io::Write;
 use std::sync::atomic::{AtomicBool, Ordering};
 use std::sync::{Mutex, Wait};

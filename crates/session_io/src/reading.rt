@@ -5,11 +5,11 @@ ghost use Rattle.session_io.specs.Doing.{DoesRead, is_left, is_over};
 ghost use Rattle.session_io.specs.Filling.{Fills};
 
 use crate::backlog::Backlog;
-use crate::working::{Until, do_lines};
+use crate::doing_lines::{Until, do_lines};
 use chronicle::Why;
-use intakes::{Intake, Unread};
-use session_ends::hall::outbox::Sender;
-use session_ends::hall::{Baton, Naming, Told};
+use receive_buffer::{ReceiveBuffer, Unread};
+use session_ends::book::outbox::Sender;
+use session_ends::book::{Baton, FlushList, Naming};
 use session_ends::{Host, Server};
 use std::io::Read;
 use std::sync::Wait;
@@ -69,7 +69,7 @@ fn took_after(until: Until, then: Next) -> Took
 }
 
 /// Reads once, where the intake has no lines left. It answers whether more may be there at once, or why no lines came.
-fn fill<I: Read>(intake: &mut Intake, input: &mut I) -> Result<bool, Unread>
+fn fill<I: Read>(intake: &mut ReceiveBuffer, input: &mut I) -> Result<bool, Unread>
     ensures fills { OnOk result (Fills (I.remaining input.old)
         (I.remaining input.new) intake.old intake.new) }
     ensures lines { IfErr result (λ u. (done : List Piece) → DoesRead (I.remaining input.old)
@@ -89,7 +89,7 @@ fn fill<I: Read>(intake: &mut Intake, input: &mut I) -> Result<bool, Unread>
 /// Has the lines done that the intake has left, if there are any, and else reads once and has the lines done that
 /// end in what that brings, as `do_lines` does. While much waits for the session, by its backlog, nothing is read and
 /// no further line is done: `Next::Left`; before that, all who got something are told. Else who got something stands
-/// in `told`, as after `do_lines`. A stream that has nothing now is no fault: `Next::Nothing`.
+/// in `flushes`, as after `do_lines`. A stream that has nothing now is no fault: `Next::Nothing`.
 ///
 /// Whatever stream came before, of which the intake kept what is unfinished: of the lines that were left in the
 /// intake, and then of those that end in the octets that were read, the first were done with the baton, in order.
@@ -98,11 +98,11 @@ fn fill<I: Read>(intake: &mut Intake, input: &mut I) -> Result<bool, Unread>
 pub fn read_some<L: Naming, I: Read, B: Backlog, R: Wait + Drop, H: Host>(
     rt: &R,
     server: &Server<'_, L, R, H>,
-    intake: &mut Intake,
+    intake: &mut ReceiveBuffer,
     baton: &mut Baton<L, Sender<R>>,
     backlog: &B,
     input: &mut I,
-    told: &mut Told,
+    flushes: &mut FlushList,
 ) -> Took
     ensures lines { DoesRead (I.remaining input.old)
         (I.remaining input.new) intake.old intake.new baton.old.pieces baton.new.pieces result.all }
@@ -122,7 +122,7 @@ pub fn read_some<L: Naming, I: Read, B: Backlog, R: Wait + Drop, H: Host>(
         Err(unread) => return took_of(unread),
     };
     let then = if is_full { Next::More } else { Next::Short };
-    let count = do_lines(rt, server, backlog, baton, intake.pieces(), told);
+    let count = do_lines(rt, server, backlog, baton, intake.pieces(), flushes);
     intake.advance(count.done);
     took_after(count.until, then)
 }

@@ -5,7 +5,7 @@ ghost use Rattle.session_io.specs.Writing.{IsWritten};
 
 use crate::outlet::{Outlet, Pumped};
 use chronicle::{SessionId, Why};
-use session_ends::hall::{Naming, Told};
+use session_ends::book::{FlushList, Naming};
 use session_ends::{Host, Server, hang};
 use std::io::Write;
 use std::sync::Wait;
@@ -41,7 +41,7 @@ pub fn write_some<L: Naming, W: Sink + Drop, R: Wait + Drop, H: Host>(
     session: SessionId,
     outlet: &Outlet<L, W>,
     is_shut: bool,
-    told: &mut Told,
+    flushes: &mut FlushList,
 ) -> Written<L, W>
     ensures over { result.standing ≡ Over
         → IsSomeAnd result.pumped
@@ -59,7 +59,7 @@ pub fn write_some<L: Naming, W: Sink + Drop, R: Wait + Drop, H: Host>(
         Ok(Flow::Idle) => is_shut,
         Ok(Flow::Behind | Flow::More) => false,
         Err(_) => {
-            let _ = hang(rt, server, session, Why::WriteFailed, told);
+            let _ = hang(rt, server, session, Why::WriteFailed, flushes);
             true
         }
     };

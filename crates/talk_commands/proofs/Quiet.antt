@@ -8,12 +8,12 @@ use Rattle.registration.specs.declared.caps.Cap.TheVariants.{EchoMessage}
 use Rattle.registration.specs.declared.settings.Settings.{Settings}
 use Rattle.registration.specs.Caps.{is_on}
 use Rattle.roster.specs.declared.deed.Deed.{Deed}
-use Rattle.roster.specs.LookBack.{away, caps, found, state, name_of, nick}
-use Rattle.drafts.specs.declared.effect.Effect.{Effect}
-use Rattle.drafts.specs.declared.effect.Effect.TheVariants.{Answer, Show}
-use Rattle.drafts.specs.Effects.{deeds_of}
-use Rattle.drafts.specs.Lines.{prefix, title}
-use Rattle.drafts.proofs.Quiet.{both-quiet, either-quiet}
+use Rattle.roster.specs.LookBack.{away, caps, user_named, state, name_of, nick}
+use Rattle.transactions.specs.declared.effect.Effect.{Effect}
+use Rattle.transactions.specs.declared.effect.Effect.TheVariants.{Answer, Show}
+use Rattle.transactions.specs.Effects.{deeds_of}
+use Rattle.transactions.specs.Lines.{prefix, title}
+use Rattle.transactions.proofs.Quiet.{both-quiet, either-quiet}
 use Rattle.talk_commands.specs.declared.verb.Verb.{Verb}
 use Rattle.talk_commands.specs.declared.verb.Verb.TheVariants.{Privmsg, Notice, Tagmsg}
 use Rattle.talk_commands.specs.Lines.{Sent, sent_line}
@@ -60,7 +60,7 @@ user-quiet g fs s b n (Some t) =
 
 pub one-quiet : (g : Settings) (fs : List Deed) (s : ℕ) (b : Sent) (c : List ℕ) → deeds_of (to_one g fs s b c) ≡ []
 one-quiet g fs s b c = either-quiet (names_channel c) _ _ (channel-quiet g fs s b c (name_of fs c))
-    (user-quiet g fs s b c (found fs c))
+    (user-quiet g fs s b c (user_named fs c))
 
 pub all-quiet : (g : Settings) (fs : List Deed) (s : ℕ) (b : Sent) (cs : List (List ℕ))
     → deeds_of (flat_map (to_one g fs s b) cs) ≡ []

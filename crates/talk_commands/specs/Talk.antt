@@ -13,7 +13,7 @@ use Rattle.command_params.specs.Lists.{names_of}
 use Rattle.command_params.specs.Params.{first_or_empty}
 use Rattle.registration.specs.declared.settings.Settings.{Settings}
 use Rattle.roster.specs.declared.deed.Deed.{Deed}
-use Rattle.drafts.specs.declared.effect.Effect.{Effect}
+use Rattle.transactions.specs.declared.effect.Effect.{Effect}
 use Rattle.talk_commands.specs.declared.verb.Verb.TheVariants.{Privmsg, Notice, Tagmsg}
 use Rattle.talk_commands.specs.Talking.{sends}
 use Rattle.talk_commands.specs.Away.{goes_away}
@@ -24,24 +24,24 @@ second_or_empty [] = []
 second_or_empty (p ∷ ps) = first_or_empty ps
 
 -- the tags that are passed on, of the tag data of a message
-abbrev pub relayed : List ℕ → List ℕ
-relayed tag_data = client_only_data (counting_tags tag_data)
+abbrev pub client_tags : List ℕ → List ℕ
+client_tags tag_data = client_only_data (counting_tags tag_data)
 
 abbrev pub privmsg_command : List ℕ → List (List ℕ) → Result TalkCommand ReadFault
 privmsg_command tag_data ps =
     cond (is_empty (first_or_empty ps)) (Err (NoRecipient name.Privmsg))
     (cond (is_empty (second_or_empty ps)) (Err NoTextToSend)
-    (Ok (Send Privmsg (names_of (first_or_empty ps)) (Some (second_or_empty ps)) (relayed tag_data))))
+    (Ok (Send Privmsg (names_of (first_or_empty ps)) (Some (second_or_empty ps)) (client_tags tag_data))))
 
 -- never answered with a numeric: where PRIVMSG would be, it is for nobody
 abbrev pub notice_command : List ℕ → List (List ℕ) → Result TalkCommand ReadFault
 notice_command tag_data ps =
     cond (is_empty (first_or_empty ps) || is_empty (second_or_empty ps)) (Ok (Send Notice [] (Some []) []))
-    (Ok (Send Notice (names_of (first_or_empty ps)) (Some (second_or_empty ps)) (relayed tag_data)))
+    (Ok (Send Notice (names_of (first_or_empty ps)) (Some (second_or_empty ps)) (client_tags tag_data)))
 
 abbrev pub tagmsg_command : List ℕ → List (List ℕ) → Result TalkCommand ReadFault
 tagmsg_command tag_data ps = cond (is_empty (first_or_empty ps)) (Err (NoRecipient name.Tagmsg))
-    (Ok (Send Tagmsg (names_of (first_or_empty ps)) None (relayed tag_data)))
+    (Ok (Send Tagmsg (names_of (first_or_empty ps)) None (client_tags tag_data)))
 
 abbrev pub away_command : List (List ℕ) → Result TalkCommand ReadFault
 away_command ps = Ok (Away (first_or_empty ps))

@@ -12,12 +12,12 @@ use Rattle.registration.specs.declared.caps.Cap.TheVariants.{EchoMessage, Messag
 use Rattle.registration.specs.declared.settings.Settings.{Settings}
 use Rattle.registration.specs.Caps.{is_on}
 use Rattle.roster.specs.declared.deed.Deed.{Deed}
-use Rattle.roster.specs.LookBack.{nick, away, caps, found, state, name_of}
-use Rattle.drafts.specs.declared.effect.Effect.{Effect}
-use Rattle.drafts.specs.declared.effect.Effect.TheVariants.{Answer, Show, Copy}
-use Rattle.drafts.specs.Lines.{title, prefix}
-use Rattle.drafts.specs.Replies.{away_told, tells}
-pub use Rattle.drafts.specs.Targets.{names_channel}
+use Rattle.roster.specs.LookBack.{nick, away, caps, user_named, state, name_of}
+use Rattle.transactions.specs.declared.effect.Effect.{Effect}
+use Rattle.transactions.specs.declared.effect.Effect.TheVariants.{Answer, Show, Copy}
+use Rattle.transactions.specs.Lines.{title, prefix}
+use Rattle.transactions.specs.Replies.{away_told, tells}
+pub use Rattle.transactions.specs.Targets.{names_channel}
 use Rattle.talk_commands.specs.declared.verb.Verb.{Verb}
 use Rattle.talk_commands.specs.declared.verb.Verb.TheVariants.{Privmsg, Notice, Tagmsg}
 use Rattle.talk_commands.specs.Lines.{Sent, sent_line}
@@ -30,12 +30,12 @@ answers g fs s v n = tells g fs s n ∷ []
 -- ---- whom it reaches
 
 -- TAGMSG reaches those alone who take tags, and nobody where it has none
-abbrev pub reached : List Deed → Verb → List ℕ → ℕ → Bool
-reached fs Tagmsg tags t = not (length tags == 0) && is_on (caps fs t) MessageTags
-reached fs v tags t = true
+abbrev pub is_reached : List Deed → Verb → List ℕ → ℕ → Bool
+is_reached fs Tagmsg tags t = not (length tags == 0) && is_on (caps fs t) MessageTags
+is_reached fs v tags t = true
 
 abbrev pub reaches : List Deed → Sent → ℕ → Bool
-reaches fs b t = reached fs b.verb b.tags t
+reaches fs b t = is_reached fs b.verb b.tags t
 
 -- its sender gets it back as a part of the answer, if it wants to
 abbrev pub echoes : List Deed → ℕ → Sent → Out → List Effect
@@ -91,7 +91,7 @@ to_user g fs s b n (Some t) = delivers fs s b t (sent_line b (prefix fs s) (titl
 abbrev pub to_one : Settings → List Deed → ℕ → Sent → List ℕ → List Effect
 to_one g fs s b target =
     if names_channel target then to_channel g fs s b target (name_of fs target)
-    else to_user g fs s b target (found fs target)
+    else to_user g fs s b target (user_named fs target)
 
 -- to each target in turn, or to nobody where there are more than four
 abbrev pub sends : Settings → List Deed → ℕ → Sent → List (List ℕ) → List Effect

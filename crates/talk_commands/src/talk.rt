@@ -3,21 +3,21 @@
 ghost use Rattle.std.specs.Prelude.{◌≡◌, true, IfOk, OnOk};
 ghost use Rattle.line_grammar.specs.Parts.{is_present};
 ghost use Rattle.roster.specs.Legal.{IsOpened};
-ghost use Rattle.drafts.specs.Words.{grown};
+ghost use Rattle.transactions.specs.Words.{grown};
 ghost use Rattle.command_params.specs.Lists.{names_of};
 ghost use Rattle.command_params.specs.Params.{IsRead};
 ghost use Rattle.talk_commands.specs.declared.talk.TalkCommand.TheVariants.{Send};
 ghost use Rattle.talk_commands.specs.Talk.{is_unanswered, serves_talk};
 ghost use Rattle.talk_commands.specs.Talk.{privmsg_command, notice_command, tagmsg_command};
-ghost use Rattle.talk_commands.specs.Talk.{away_command, relayed, second_or_empty};
+ghost use Rattle.talk_commands.specs.Talk.{away_command, client_tags, second_or_empty};
 
 use crate::{Sending, Verb, go_away, send};
 use chronicle::SessionId;
 use command_params::{CommandName, ReadFault, first, into_first, read_names};
-use drafts::Draft;
 use line_grammar::{LineMessage, LineParameters, Octets, OctetsList, split_first};
 use message_tags::{client_only, tags_of};
 use std::alloc::{AllocError, Global};
+use transactions::Transaction;
 
 /// What is sent, and whether somebody is there to be sent it. Names and texts are as given. A list of names has no
 /// empty one, and none that repeats another in either case.
@@ -49,8 +49,8 @@ fn second<'a>(params: &LineParameters<'a>) -> &'a [u8]
 
 /// The tags that are passed on.
 #[tactic(auto, using(crate::proofs::Relayed::none_relayed))]
-fn relayed(alloc: Global, tag_data: &[u8]) -> Result<Octets, AllocError>
-    ensures { IfOk result (λ t. t ≡ relayed tag_data.now) }
+fn client_only_tags(alloc: Global, tag_data: &[u8]) -> Result<Octets, AllocError>
+    ensures { IfOk result (λ t. t ≡ client_tags tag_data.now) }
 {
     if tag_data.is_empty() {
         return Ok(Octets::from_vec(Vec::new(alloc)));
@@ -74,7 +74,7 @@ fn names_in(alloc: Global, list: Octets) -> Result<OctetsList, AllocError>
 }
 
 /// What is sent to those whom a list names, which isn't empty.
-fn sent(
+fn new_send(
     alloc: Global,
     verb: Verb,
     list: Octets,
@@ -82,10 +82,10 @@ fn sent(
     tag_data: &[u8],
 ) -> Result<TalkCommand, AllocError>
     requires { is_present list ≡ true }
-    ensures { IfOk result (λ k. k ≡ Send verb (names_of list) text (relayed tag_data.now)) }
+    ensures { IfOk result (λ k. k ≡ Send verb (names_of list) text (client_tags tag_data.now)) }
 {
     let targets = names_in(alloc, list)?;
-    let tags = relayed(alloc, tag_data)?;
+    let tags = client_only_tags(alloc, tag_data)?;
     Ok(TalkCommand::Send {
         verb,
         targets,
@@ -109,8 +109,8 @@ pub fn read_privmsg(alloc: Global, message: LineMessage<'_>) -> Result<TalkComma
     if text.is_empty() {
         return Err(ReadFault::NoTextToSend);
     }
-    let text = Octets::copied(alloc, text)?;
-    Ok(sent(alloc, Verb::Privmsg, list, Some(text), tag_data)?)
+    let text = Octets::copy_of(alloc, text)?;
+    Ok(new_send(alloc, Verb::Privmsg, list, Some(text), tag_data)?)
 }
 
 /// What NOTICE asks for (section 3.3.2).
@@ -128,8 +128,8 @@ pub fn read_notice(alloc: Global, message: LineMessage<'_>) -> Result<TalkComman
             tags: Octets::from_vec(Vec::new(alloc)),
         });
     }
-    let text = Octets::copied(alloc, text)?;
-    Ok(sent(alloc, Verb::Notice, list, Some(text), tag_data)?)
+    let text = Octets::copy_of(alloc, text)?;
+    Ok(new_send(alloc, Verb::Notice, list, Some(text), tag_data)?)
 }
 
 /// What TAGMSG asks for (IRCv3 message-tags).
@@ -143,27 +143,27 @@ pub fn read_tagmsg(alloc: Global, message: LineMessage<'_>) -> Result<TalkComman
             command: CommandName::Tagmsg,
         });
     }
-    Ok(sent(alloc, Verb::Tagmsg, list, None, tag_data)?)
+    Ok(new_send(alloc, Verb::Tagmsg, list, None, tag_data)?)
 }
 
 /// What AWAY asks for (RFC 2812, section 4.1).
 pub fn read_away(alloc: Global, params: &LineParameters<'_>) -> Result<TalkCommand, ReadFault>
     ensures { IsRead (away_command params.now) result }
 {
-    let text = Octets::copied(alloc, first(params))?;
+    let text = Octets::copy_of(alloc, first(params))?;
     Ok(TalkCommand::Away { text })
 }
 
 /// Does what a command asks for that sends something.
 pub fn serve_talk(
-    draft: &mut Draft,
+    tx: &mut Transaction,
     session: SessionId,
     command: &TalkCommand,
 ) -> Result<(), AllocError>
-    requires opened { IsOpened draft.old.facts session }
-    requires first { draft.old.facts ≡ draft.old.base }
-    ensures { OnOk result (draft.new
-        ≡ grown draft.old (serves_talk draft.old.settings draft.old.facts session command.now)) }
+    requires opened { IsOpened tx.old.facts session }
+    requires first { tx.old.facts ≡ tx.old.base }
+    ensures { OnOk result (tx.new
+        ≡ grown tx.old (serves_talk tx.old.settings tx.old.facts session command.now)) }
 {
     match command {
         TalkCommand::Send {
@@ -177,9 +177,9 @@ pub fn serve_talk(
                 text: text.as_ref(),
                 tags,
             };
-            send(draft, session, &sending, targets.as_slice())
+            send(tx, session, &sending, targets.as_slice())
         }
-        TalkCommand::Away { text } => go_away(draft, session, text),
+        TalkCommand::Away { text } => go_away(tx, session, text),
     }
 }
 

@@ -2,9 +2,9 @@
 //! message-tags; IRCv3 echo-message).
 ghost use Rattle.std.specs.Prelude.{◌≡◌, ◌==◌, ◌∷◌, [], cond, filter, IfOk, OnOk};
 ghost use Rattle.std.specs.List.{flat_map};
-ghost use Rattle.roster.specs.LookBack.{away, found, name_of, state};
-ghost use Rattle.drafts.specs.declared.effect.Effect.TheVariants.{Show};
-ghost use Rattle.drafts.specs.Words.{denied, grown, prefix};
+ghost use Rattle.roster.specs.LookBack.{away, user_named, name_of, state};
+ghost use Rattle.transactions.specs.declared.effect.Effect.TheVariants.{Show};
+ghost use Rattle.transactions.specs.Words.{numeric_for, grown, prefix};
 ghost use Rattle.talk_commands.specs.Lines.{sent_line};
 ghost use Rattle.talk_commands.specs.Talking.{answers, delivers, echoes, is_barred, keeps, may_speak};
 ghost use Rattle.talk_commands.specs.Talking.{reaches, sends, shows, tells_away, to_channel, to_one, to_open, to_user};
@@ -12,30 +12,30 @@ ghost use Rattle.talk_commands.specs.Talking.{reaches, sends, shows, tells_away,
 use crate::{Sending, Verb};
 use channel_state::ChannelState;
 use chronicle::SessionId;
-use drafts::{Denial, Draft, deny, names_channel, prefix_of, tell_away, title_text};
 use line_grammar::Octets;
 use numerics::Line;
 use registration::Cap;
 use roster::{Roster, Sessions};
 use std::alloc::{AllocError, Global};
+use transactions::{Denial, Transaction, deny, names_channel, prefix_of, tell_away, title_text};
 
 /// The most targets of a text.
 const MAX_TARGETS: usize = 4;
 
 /// Answers a session that something isn't sent, but not to NOTICE.
 fn refuse(
-    draft: &mut Draft,
+    tx: &mut Transaction,
     session: SessionId,
     verb: Verb,
     denial: Denial,
     name: &Octets,
 ) -> Result<(), AllocError>
-    ensures { OnOk result (draft.new ≡ grown draft.old
-        (answers draft.old.settings draft.old.facts session verb (denied denial name.now))) }
+    ensures { OnOk result (tx.new ≡ grown tx.old
+        (answers tx.old.settings tx.old.facts session verb (numeric_for denial name.now))) }
 {
     match verb {
         Verb::Notice => Ok(()),
-        Verb::Privmsg | Verb::Tagmsg => deny(draft, session, denial, name),
+        Verb::Privmsg | Verb::Tagmsg => deny(tx, session, denial, name),
     }
 }
 
@@ -53,7 +53,7 @@ fn reaches(roster: &Roster, sending: &Sending<'_>, session: SessionId) -> bool
 }
 
 /// Those of some sessions whom it reaches, one by one.
-fn reached_of(
+fn takers_of_tags(
     alloc: Global,
     roster: &Roster,
     sending: &Sending<'_>,
@@ -68,7 +68,7 @@ fn reached_of(
 
 /// Those of some sessions whom it reaches. A text reaches them all.
 #[tactic(auto, using(crate::proofs::Reached::privmsg_reaches_all, crate::proofs::Reached::notice_reaches_all))]
-fn reached(
+fn hearers_of(
     alloc: Global,
     roster: &Roster,
     sending: &Sending<'_>,
@@ -78,29 +78,29 @@ fn reached(
 {
     match sending.verb {
         Verb::Privmsg | Verb::Notice => Ok(sessions),
-        Verb::Tagmsg => reached_of(alloc, roster, sending, sessions.as_slice()),
+        Verb::Tagmsg => takers_of_tags(alloc, roster, sending, sessions.as_slice()),
     }
 }
 
 /// Gives a session back what it sent, as a part of the answer, where it wants to have it.
 fn echo(
-    draft: &mut Draft,
+    tx: &mut Transaction,
     session: SessionId,
     sending: &Sending<'_>,
     from: &[u8],
     target: &[u8],
 ) -> Result<(), AllocError>
-    requires first { draft.old.facts ≡ draft.old.base }
-    ensures { OnOk result (draft.new ≡ grown draft.old
-        (echoes draft.old.facts session sending.now (sent_line sending.now from.now target.now))) }
+    requires first { tx.old.facts ≡ tx.old.base }
+    ensures { OnOk result (tx.new ≡ grown tx.old
+        (echoes tx.old.facts session sending.now (sent_line sending.now from.now target.now))) }
 {
-    let caps = draft.before().caps_of(session);
+    let caps = tx.before().caps_of(session);
     let wants = caps.contains(Cap::EchoMessage);
-    if !wants || !reaches(draft.before(), sending, session) {
+    if !wants || !reaches(tx.before(), sending, session) {
         return Ok(());
     }
-    let line = sending.line(draft.alloc(), from, target)?;
-    draft.answer(line)
+    let line = sending.line(tx.alloc(), from, target)?;
+    tx.answer(line)
 }
 
 // ---- a channel
@@ -122,195 +122,195 @@ fn may_speak(state: &ChannelState, session: SessionId, source: &[u8]) -> bool
 
 /// Shows it to those of some sessions whom it reaches.
 fn show(
-    draft: &mut Draft,
+    tx: &mut Transaction,
     sending: &Sending<'_>,
     sessions: Sessions,
     line: Line,
 ) -> Result<(), AllocError>
-    requires { draft.old.facts ≡ draft.old.base }
-    ensures { OnOk result (draft.new ≡ grown draft.old
-        (Show (filter (reaches draft.old.facts sending.now) sessions) line ∷ [])) }
+    requires { tx.old.facts ≡ tx.old.base }
+    ensures { OnOk result (tx.new ≡ grown tx.old
+        (Show (filter (reaches tx.old.facts sending.now) sessions) line ∷ [])) }
 {
-    let hearers = reached(draft.alloc(), draft.before(), sending, sessions)?;
-    draft.show(hearers, line)
+    let hearers = hearers_of(tx.alloc(), tx.before(), sending, sessions)?;
+    tx.show(hearers, line)
 }
 
 /// Sends it to the other members of a channel.
-#[tactic(auto, using(drafts::proofs::Replay::grown_grown))]
+#[tactic(auto, using(transactions::proofs::Replay::grown_grown))]
 fn send_to_members(
-    draft: &mut Draft,
+    tx: &mut Transaction,
     session: SessionId,
     sending: &Sending<'_>,
     from: &[u8],
     name: &[u8],
     members: &[SessionId],
 ) -> Result<(), AllocError>
-    requires { draft.old.facts ≡ draft.old.base }
-    ensures { OnOk result (draft.new ≡ grown draft.old (shows draft.old.facts session sending.now
+    requires { tx.old.facts ≡ tx.old.base }
+    ensures { OnOk result (tx.new ≡ grown tx.old (shows tx.old.facts session sending.now
         members.now (sent_line sending.now from.now name.now))) }
 {
-    let line = sending.line(draft.alloc(), from, name)?;
-    let mut others = Sessions::copied(draft.alloc(), members)?;
+    let line = sending.line(tx.alloc(), from, name)?;
+    let mut others = Sessions::copy_of(tx.alloc(), members)?;
     others.remove(session);
-    show(draft, sending, others, line)?;
-    echo(draft, session, sending, from, name)
+    show(tx, sending, others, line)?;
+    echo(tx, session, sending, from, name)
 }
 
 /// Sends it to a channel that is there, where the session may speak.
 fn send_to_open(
-    draft: &mut Draft,
+    tx: &mut Transaction,
     session: SessionId,
     sending: &Sending<'_>,
     name: &Octets,
     state: &ChannelState,
 ) -> Result<(), AllocError>
-    requires { draft.old.facts ≡ draft.old.base }
-    ensures { OnOk result (draft.new ≡ grown draft.old
-        (to_open draft.old.settings draft.old.facts session sending.now name.now state.now.state)) }
+    requires { tx.old.facts ≡ tx.old.base }
+    ensures { OnOk result (tx.new ≡ grown tx.old
+        (to_open tx.old.settings tx.old.facts session sending.now name.now state.now.state)) }
 {
-    let from = prefix_of(draft, session)?;
+    let from = prefix_of(tx, session)?;
     if !may_speak(state, session, from.as_slice()) {
-        return refuse(draft, session, sending.verb, Denial::CannotSendToChan, name);
+        return refuse(tx, session, sending.verb, Denial::CannotSendToChan, name);
     }
     let (from, name) = (from.as_slice(), name.as_slice());
-    send_to_members(draft, session, sending, from, name, state.members())
+    send_to_members(tx, session, sending, from, name, state.members())
 }
 
 /// Sends it to a channel.
 fn send_to_channel(
-    draft: &mut Draft,
+    tx: &mut Transaction,
     session: SessionId,
     sending: &Sending<'_>,
     channel: &Octets,
 ) -> Result<(), AllocError>
-    requires { draft.old.facts ≡ draft.old.base }
-    ensures { OnOk result (draft.new ≡ grown draft.old (to_channel draft.old.settings
-        draft.old.facts session sending.now channel.now (name_of draft.old.facts channel.now))) }
+    requires { tx.old.facts ≡ tx.old.base }
+    ensures { OnOk result (tx.new ≡ grown tx.old (to_channel tx.old.settings
+        tx.old.facts session sending.now channel.now (name_of tx.old.facts channel.now))) }
 {
-    let Some((name, state)) = draft.before().channel(channel.as_slice()) else {
-        return refuse(draft, session, sending.verb, Denial::NoSuchChannel, channel);
+    let Some((name, state)) = tx.before().channel(channel.as_slice()) else {
+        return refuse(tx, session, sending.verb, Denial::NoSuchChannel, channel);
     };
-    send_to_open(draft, session, sending, name, state)
+    send_to_open(tx, session, sending, name, state)
 }
 
 // ---- a user
 
 /// Hands it to a user, or besides the answer to its sender.
 fn hand(
-    draft: &mut Draft,
+    tx: &mut Transaction,
     session: SessionId,
     sending: &Sending<'_>,
     user: SessionId,
     line: Line,
 ) -> Result<(), AllocError>
-    requires { draft.old.facts ≡ draft.old.base }
-    ensures { OnOk result (draft.new
-        ≡ grown draft.old (cond (user == session) (keeps draft.old.facts session sending.now line)
-        (Show (filter (reaches draft.old.facts sending.now) (user ∷ [])) line ∷ []))) }
+    requires { tx.old.facts ≡ tx.old.base }
+    ensures { OnOk result (tx.new
+        ≡ grown tx.old (cond (user == session) (keeps tx.old.facts session sending.now line)
+        (Show (filter (reaches tx.old.facts sending.now) (user ∷ [])) line ∷ []))) }
 {
     if user != session {
-        let hearer = Sessions::copied(draft.alloc(), &[user])?;
-        return show(draft, sending, hearer, line);
+        let hearer = Sessions::copy_of(tx.alloc(), &[user])?;
+        return show(tx, sending, hearer, line);
     }
-    if !reaches(draft.before(), sending, session) {
+    if !reaches(tx.before(), sending, session) {
         return Ok(());
     }
-    draft.copy(line)
+    tx.copy(line)
 }
 
 /// Delivers it to a user.
-#[tactic(auto, using(drafts::proofs::Replay::grown_grown))]
+#[tactic(auto, using(transactions::proofs::Replay::grown_grown))]
 fn deliver(
-    draft: &mut Draft,
+    tx: &mut Transaction,
     session: SessionId,
     sending: &Sending<'_>,
     user: SessionId,
     from: &[u8],
     name: &[u8],
 ) -> Result<(), AllocError>
-    requires { draft.old.facts ≡ draft.old.base }
-    ensures { OnOk result (draft.new ≡ grown draft.old (delivers draft.old.facts session sending.now
+    requires { tx.old.facts ≡ tx.old.base }
+    ensures { OnOk result (tx.new ≡ grown tx.old (delivers tx.old.facts session sending.now
         user (sent_line sending.now from.now name.now))) }
 {
-    let line = sending.line(draft.alloc(), from, name)?;
-    hand(draft, session, sending, user, line)?;
-    echo(draft, session, sending, from, name)
+    let line = sending.line(tx.alloc(), from, name)?;
+    hand(tx, session, sending, user, line)?;
+    echo(tx, session, sending, from, name)
 }
 
 /// Tells the sender of a PRIVMSG that a user is away.
 fn tell_sender(
-    draft: &mut Draft,
+    tx: &mut Transaction,
     session: SessionId,
     verb: Verb,
     user: SessionId,
 ) -> Result<(), AllocError>
-    requires { draft.old.facts ≡ draft.old.base }
-    ensures { OnOk result (draft.new ≡ grown draft.old (tells_away draft.old.settings
-        draft.old.facts session verb user (away draft.old.facts user))) }
+    requires { tx.old.facts ≡ tx.old.base }
+    ensures { OnOk result (tx.new ≡ grown tx.old (tells_away tx.old.settings
+        tx.old.facts session verb user (away tx.old.facts user))) }
 {
-    let roster = draft.before();
+    let roster = tx.before();
     match verb {
         Verb::Privmsg => {
             let nick = title_text(roster.nick_of(user));
-            tell_away(draft, session, nick, roster.away_of(user))
+            tell_away(tx, session, nick, roster.away_of(user))
         }
         Verb::Notice | Verb::Tagmsg => Ok(()),
     }
 }
 
 /// Sends it to a user.
-#[tactic(auto, using(drafts::proofs::Replay::grown_grown))]
+#[tactic(auto, using(transactions::proofs::Replay::grown_grown))]
 fn send_to_user(
-    draft: &mut Draft,
+    tx: &mut Transaction,
     session: SessionId,
     sending: &Sending<'_>,
     nick: &Octets,
 ) -> Result<(), AllocError>
-    requires { draft.old.facts ≡ draft.old.base }
-    ensures { OnOk result (draft.new ≡ grown draft.old (to_user draft.old.settings draft.old.facts
-        session sending.now nick.now (found draft.old.facts nick.now))) }
+    requires { tx.old.facts ≡ tx.old.base }
+    ensures { OnOk result (tx.new ≡ grown tx.old (to_user tx.old.settings tx.old.facts
+        session sending.now nick.now (user_named tx.old.facts nick.now))) }
 {
-    let Some(user) = draft.before().find(nick.as_slice()) else {
-        return refuse(draft, session, sending.verb, Denial::NoSuchNick, nick);
+    let Some(user) = tx.before().find(nick.as_slice()) else {
+        return refuse(tx, session, sending.verb, Denial::NoSuchNick, nick);
     };
-    let from = prefix_of(draft, session)?;
-    let name = title_text(draft.before().nick_of(user));
-    deliver(draft, session, sending, user, from.as_slice(), name)?;
-    tell_sender(draft, session, sending.verb, user)
+    let from = prefix_of(tx, session)?;
+    let name = title_text(tx.before().nick_of(user));
+    deliver(tx, session, sending, user, from.as_slice(), name)?;
+    tell_sender(tx, session, sending.verb, user)
 }
 
 // ---- several targets
 
 /// Sends it to a target.
 fn send_to(
-    draft: &mut Draft,
+    tx: &mut Transaction,
     session: SessionId,
     sending: &Sending<'_>,
     target: &Octets,
 ) -> Result<(), AllocError>
-    requires { draft.old.facts ≡ draft.old.base }
-    ensures { OnOk result (draft.new ≡ grown draft.old
-        (to_one draft.old.settings draft.old.facts session sending.now target.now)) }
+    requires { tx.old.facts ≡ tx.old.base }
+    ensures { OnOk result (tx.new ≡ grown tx.old
+        (to_one tx.old.settings tx.old.facts session sending.now target.now)) }
 {
     if names_channel(target.as_slice()) {
-        return send_to_channel(draft, session, sending, target);
+        return send_to_channel(tx, session, sending, target);
     }
-    send_to_user(draft, session, sending, target)
+    send_to_user(tx, session, sending, target)
 }
 
 /// Sends it to each target in turn.
 fn send_to_each(
-    draft: &mut Draft,
+    tx: &mut Transaction,
     session: SessionId,
     sending: &Sending<'_>,
     targets: &[Octets],
 ) -> Result<(), AllocError>
-    requires { draft.old.facts ≡ draft.old.base }
-    ensures { OnOk result (draft.new ≡ grown draft.old
-        (flat_map (to_one draft.old.settings draft.old.facts session sending.now) targets.now)) }
+    requires { tx.old.facts ≡ tx.old.base }
+    ensures { OnOk result (tx.new ≡ grown tx.old
+        (flat_map (to_one tx.old.settings tx.old.facts session sending.now) targets.now)) }
 {
     for target in targets {
-        send_to(draft, session, sending, target)?;
+        send_to(tx, session, sending, target)?;
     }
     Ok(())
 }
@@ -319,18 +319,18 @@ fn send_to_each(
 /// speak on a channel where it has a rank, or where neither a mode nor a ban bars it. TAGMSG reaches those alone who
 /// take tags.
 pub fn send(
-    draft: &mut Draft,
+    tx: &mut Transaction,
     session: SessionId,
     sending: &Sending<'_>,
     targets: &[Octets],
 ) -> Result<(), AllocError>
-    requires { draft.old.facts ≡ draft.old.base }
-    ensures { OnOk result (draft.new ≡ grown draft.old
-        (sends draft.old.settings draft.old.facts session sending.now targets.now)) }
+    requires { tx.old.facts ≡ tx.old.base }
+    ensures { OnOk result (tx.new ≡ grown tx.old
+        (sends tx.old.settings tx.old.facts session sending.now targets.now)) }
 {
     if targets.len() > MAX_TARGETS {
         let fifth = &targets[MAX_TARGETS];
-        return refuse(draft, session, sending.verb, Denial::TooManyTargets, fifth);
+        return refuse(tx, session, sending.verb, Denial::TooManyTargets, fifth);
     }
-    send_to_each(draft, session, sending, targets)
+    send_to_each(tx, session, sending, targets)
 }

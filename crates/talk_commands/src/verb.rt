@@ -71,7 +71,7 @@ fn line_to(
         ∷ option_to_list (option_copied text.entry)) (is_some (option_copied text.entry))) }
 {
     match text {
-        Some(text) => Line::telling(alloc, from, verb.text(), &[target], text.as_slice()),
+        Some(text) => Line::with_text(alloc, from, verb.text(), &[target], text.as_slice()),
         None => Line::new(alloc, from, verb.text(), &[target]),
     }
 }

@@ -4,8 +4,8 @@ use Rattle.websocket_front.specs.declared.front.FrontFault.{FrontFault}
 use Rattle.websocket_front.specs.declared.front.FrontFault.TheVariants.{Io, Protocol, Memory}
 use Rattle.websocket_front.specs.declared.front.Meaning.{Meaning}
 use Rattle.websocket_front.specs.declared.front.Meaning.TheVariants.{Later, Closed, Fault}
-use Rattle.websocket_front.specs.declared.counted.Causes.{Causes}
-use Rattle.websocket_front.specs.Causes.{counted, count_of, Grows, Answers}
+use Rattle.websocket_front.specs.declared.counted_socket.Causes.{Causes}
+use Rattle.websocket_front.specs.Causes.{count_one, count_of, Grows, Answers}
 
 pub grows_trans : (c d e : Causes) → Grows c d → Grows d e → Grows c e
 grows_trans c d e g h = (omega (arith, g, h), omega (arith, g, h), omega (arith, g, h), omega (arith, g, h))
@@ -24,14 +24,14 @@ pub answers_then : (f : FrontFault) (c d e : Causes) → Answers f c d → Grows
 answers_then f c d e h g = omega (arith, h, count_grows f d e g)
 
 -- an answer more
-pub counted_grows : (m : Meaning) (c : Causes) → Grows c (counted m c)
+pub counted_grows : (m : Meaning) (c : Causes) → Grows c (count_one m c)
 counted_grows Later c = (omega arith, omega arith, omega arith, omega arith)
 counted_grows Closed c = (omega arith, omega arith, omega arith, omega arith)
 counted_grows (Fault Io) c = (omega arith, omega arith, omega arith, omega arith)
 counted_grows (Fault Protocol) c = (omega arith, omega arith, omega arith, omega arith)
 counted_grows (Fault Memory) c = (omega arith, omega arith, omega arith, omega arith)
 
-pub counted_answers : (f : FrontFault) (c : Causes) → Answers f c (counted (Fault f) c)
+pub counted_answers : (f : FrontFault) (c : Causes) → Answers f c (count_one (Fault f) c)
 counted_answers Io c = omega arith
 counted_answers Protocol c = omega arith
 counted_answers Memory c = omega arith

@@ -9,7 +9,7 @@ use Rattle.std.proofs.lemmas.Bool.{cases_Bool}
 use Rattle.std.proofs.lemmas.Bool.Decides.{nat_tests}
 use Rattle.line_grammar.specs.Lines.{longer}
 use Rattle.answer_octets.specs.TextLines.{text_lines}
-use Rattle.websocket_front.specs.Lines.{lacking, line_break, line_length, lines}
+use Rattle.websocket_front.specs.Lines.{lacked_end, line_break, line_length, lines}
 
 cond_le : (b : Bool) (n m : ℕ) → n ≤ m → cond b 0 (suc n) ≤ suc m
 cond_le true n m le = omega arith
@@ -42,8 +42,8 @@ no-break x = grind (arith, nat_tests)
 
 -- what a text lacks is what it lacks after its first octet, or after its first line's end
 lacks : (x c : ℕ) (rest : List ℕ) (is : Bool) → (eqb x 13 && eqb c 10) ≡ is
-    → lacking (x ∷ c ∷ rest) ≡ cond is (lacking rest) (lacking (c ∷ rest))
-lacks x c rest is e = ap (λ b. cond b (lacking rest) (lacking (c ∷ rest))) e
+    → lacked_end (x ∷ c ∷ rest) ≡ cond is (lacked_end rest) (lacked_end (c ∷ rest))
+lacks x c rest is e = ap (λ b. cond b (lacked_end rest) (lacked_end (c ∷ rest))) e
 
 cut : (x c : ℕ) (rest : List ℕ) → (eqb x 13 && eqb c 10) ≡ true
     → text_lines (x ∷ c ∷ rest) ≡ [] ∷ text_lines rest
@@ -61,7 +61,7 @@ ends : (x c : ℕ) (rest : List ℕ) → (eqb x 13 && eqb c 10) ≡ true → Fro
 unfolding lines
 ends x c rest is =
     ap (λ end. text_lines (x ∷ c ∷ rest ++ end)) (lacks x c rest true is)
-    ∙ cut x c (rest ++ lacking rest) is
+    ∙ cut x c (rest ++ lacked_end rest) is
 
 goes-on : (x c : ℕ) (rest : List ℕ) (len : ℕ) → (eqb x 13 && eqb c 10) ≡ false → From (c ∷ rest) len
     → From (x ∷ c ∷ rest) (suc len)
@@ -69,7 +69,7 @@ unfolding lines
 goes-on x c rest len is more =
     let after : suc (len + 2) ≡ suc len + 2 = omega arith in
     ap (λ end. text_lines (x ∷ c ∷ rest ++ end)) (lacks x c rest false is)
-    ∙ uncut x c (rest ++ lacking (c ∷ rest)) is ∙ ap (longer x) more
+    ∙ uncut x c (rest ++ lacked_end (c ∷ rest)) is ∙ ap (longer x) more
     ∙ ap (λ k. (x ∷ take len (c ∷ rest)) ∷ lines (drop k (x ∷ c ∷ rest))) after
 
 lone : (x : ℕ) → From (x ∷ []) 1

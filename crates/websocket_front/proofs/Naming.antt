@@ -4,7 +4,7 @@ use Rattle.std.proofs.Common.{drop, get_or, Option, None, Some, refl, sym, ap, �
 use Rattle.std.specs.Prelude.{is_some}
 use Rattle.std.proofs.lemmas.List.{drop_more, take_more, get_or-drop}
 use Rattle.websocket_front.specs.declared.subprotocol.Subprotocol.{Subprotocol}
-use Rattle.websocket_front.specs.Offers.{named, named_from, first_some, is_separator, first_named}
+use Rattle.websocket_front.specs.Offers.{protocol_of, named_from, first_some, is_separator, first_named}
 
 abbrev pub piece : List ℕ → ℕ → ℕ → List ℕ
 piece value start place = take (place - start) (drop start value)
@@ -24,14 +24,14 @@ piece_more value start place le inside =
 named_on : (value : List ℕ) (start place : ℕ) (b : Bool) → place < length value
     → is_separator (get_or value place 0) ≡ b
     → named_from (piece value start place) (drop place value)
-    ≡ cond b (first_some (named (piece value start place)) (named_from [] (drop (place + 1) value)))
+    ≡ cond b (first_some (protocol_of (piece value start place)) (named_from [] (drop (place + 1) value)))
     (named_from (piece value start place ++ get_or value place 0 ∷ []) (drop (place + 1) value))
 named_on value start place b inside is =
     let p = piece value start place in
     let rest = drop (place + 1) value in
     let more = named_from (p ++ get_or value place 0 ∷ []) rest in
     ap (named_from p) (drop_more value place 0 inside) ∙ ap
-    (λ t. cond t (first_some (named p) (named_from [] rest)) more) is
+    (λ t. cond t (first_some (protocol_of p) (named_from [] rest)) more) is
 
 -- a value goes on
 pub named_within : (value : List ℕ) (start place : ℕ) → start ≤ place → place < length value
@@ -47,7 +47,7 @@ none_of n xs is = ap (λ m. take m xs) is
 
 -- a value ends that names none
 pub named_past : (value : List ℕ) (start place begun : ℕ) → place < length value
-    → is_separator (get_or value place 0) ≡ true → named (piece value start place) ≡ None → begun ≡ place + 1
+    → is_separator (get_or value place 0) ≡ true → protocol_of (piece value start place) ≡ None → begun ≡ place + 1
     → named_from (piece value begun (place + 1)) (drop (place + 1) value)
     ≡ named_from (piece value start place) (drop place value)
 named_past value start place begun inside is none there =

@@ -5,7 +5,7 @@ use Rattle.std.proofs.KnownBytes.{Appends-nil}
 use Rattle.tungstenite.specs.Content.{Content}
 use Rattle.tungstenite.specs.Socket.{Socket, Flushed}
 use Rattle.websocket_front.specs.declared.subprotocol.Subprotocol.{Subprotocol}
-use Rattle.websocket_front.specs.declared.counted.Causes.{Causes}
+use Rattle.websocket_front.specs.declared.counted_socket.Causes.{Causes}
 use Rattle.websocket_front.specs.Lines.{lines}
 use Rattle.websocket_front.specs.Frames.{message, frame_of, frame, frames}
 use Rattle.websocket_front.specs.Fronted.{Fronted, waiting, GoesOut, Gains, IsFramed}

@@ -11,7 +11,7 @@ use Rattle.websocket.specs.declared.handshake.failure.HandshakeError.TheVariants
 use Rattle.tungstenite.specs.Heads.{IsAccepted}
 use Rattle.websocket_front.specs.declared.subprotocol.Subprotocol.{Subprotocol}
 use Rattle.websocket_front.specs.declared.subprotocol.Subprotocol.TheVariants.{Text}
-use Rattle.websocket_front.specs.Offers.{chosen}
+use Rattle.websocket_front.specs.Offers.{offer_chosen}
 
 -- the values of the headers that offer subprotocols, in their order
 abbrev pub offers : Fields → List (List ℕ)
@@ -19,9 +19,9 @@ offers [] = []
 offers (h ∷ hs) = cond (eq_ignore_case h.0 (codes "sec-websocket-protocol")) (h.1 ∷ offers hs) (offers hs)
 
 -- what is served: the first offer that can be, or else text
-abbrev pub served : Option Subprotocol → Subprotocol
-served None = Text
-served (Some p) = p
+abbrev pub or_text : Option Subprotocol → Subprotocol
+or_text None = Text
+or_text (Some p) = p
 
 -- these octets are the head of a request for a WebSocket, by whose headers this subprotocol is served
 pub record Asks (head : List ℕ) (p : Subprotocol) : Type 0 where
@@ -30,7 +30,7 @@ pub record Asks (head : List ℕ) (p : Subprotocol) : Type 0 where
   pub spans : List HeaderSpan
   pub within : IsRequestWithin head spans request
   pub parsed : IsRequestOf head spans request
-  pub serves : p ≡ served (chosen (offers (fields_of head (take request.headers spans))))
+  pub serves : p ≡ or_text (offer_chosen (offers (fields_of head (take request.headers spans))))
 
 -- no head of a request that has at most 124 headers stands at the front of these octets
 abbrev pub HasNoHead : List ℕ → Type 0

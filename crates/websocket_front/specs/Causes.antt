@@ -4,15 +4,15 @@ use Rattle.websocket_front.specs.declared.front.FrontFault.{FrontFault}
 use Rattle.websocket_front.specs.declared.front.FrontFault.TheVariants.{Io, Protocol, Memory}
 use Rattle.websocket_front.specs.declared.front.Meaning.{Meaning}
 use Rattle.websocket_front.specs.declared.front.Meaning.TheVariants.{Later, Closed, Fault}
-use Rattle.websocket_front.specs.declared.counted.Causes.{Causes}
+use Rattle.websocket_front.specs.declared.counted_socket.Causes.{Causes}
 
 -- one answer more
-abbrev pub counted : Meaning → Causes → Causes
-counted Later c = record c { pauses = c.pauses + 1 }
-counted Closed c = c
-counted (Fault Io) c = record c { failures = c.failures + 1 }
-counted (Fault Protocol) c = record c { breaches = c.breaches + 1 }
-counted (Fault Memory) c = record c { shortages = c.shortages + 1 }
+abbrev pub count_one : Meaning → Causes → Causes
+count_one Later c = record c { pauses = c.pauses + 1 }
+count_one Closed c = c
+count_one (Fault Io) c = record c { failures = c.failures + 1 }
+count_one (Fault Protocol) c = record c { breaches = c.breaches + 1 }
+count_one (Fault Memory) c = record c { shortages = c.shortages + 1 }
 
 -- how many answers were this fault
 abbrev pub count_of : FrontFault → Causes → ℕ

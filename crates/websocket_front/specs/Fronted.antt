@@ -11,8 +11,8 @@ use Rattle.websocket.specs.declared.protocol.frame.coding.CloseCode.{CloseCode}
 use Rattle.deliveries.specs.declared.delivery.Delivery.{Delivery}
 use Rattle.websocket_front.specs.declared.subprotocol.Subprotocol.{Subprotocol}
 use Rattle.websocket_front.specs.declared.subprotocol.Subprotocol.TheVariants.{Text, Binary}
-use Rattle.websocket_front.specs.declared.counted.Causes.{Causes}
-use Rattle.websocket_front.specs.declared.front.Ending.{Ending}
+use Rattle.websocket_front.specs.declared.counted_socket.Causes.{Causes}
+use Rattle.websocket_front.specs.declared.front.FrontEnd.{FrontEnd}
 use Rattle.websocket_front.specs.declared.front.FrontFault.{FrontFault}
 use Rattle.websocket_front.specs.declared.front.FrontFault.TheVariants.{Io, Protocol}
 use Rattle.websocket_front.specs.Asked.{Asks}
@@ -35,7 +35,7 @@ rest_of None place = []
 rest_of (Some text) place = drop place text
 
 -- whether a front that ended so, or didn't, is open
-abbrev pub is_open_of : Option Ending → Bool
+abbrev pub is_open_of : Option FrontEnd → Bool
 is_open_of None = true
 is_open_of (Some ending) = false
 

@@ -13,11 +13,11 @@ line_length [] = 0
 line_length (x ∷ xs) = cond (starts_with nat_eq (x ∷ xs) line_break) 0 (suc (line_length xs))
 
 -- the CR LF that the last line of a text lacks, if it lacks one
-abbrev pub lacking : List ℕ → List ℕ
-lacking [] = []
-lacking (b ∷ []) = line_break
-lacking (b ∷ c ∷ rest) = cond (b == 13 && c == 10) (lacking rest) (lacking (c ∷ rest))
+abbrev pub lacked_end : List ℕ → List ℕ
+lacked_end [] = []
+lacked_end (b ∷ []) = line_break
+lacked_end (b ∷ c ∷ rest) = cond (b == 13 && c == 10) (lacked_end rest) (lacked_end (c ∷ rest))
 
 -- the lines of a text, without their CR LF, as whoever receives it reads it; a last line without its end is one, too
 unfoldable pub lines : List ℕ → List (List ℕ)
-lines text = text_lines (text ++ lacking text)
+lines text = text_lines (text ++ lacked_end text)

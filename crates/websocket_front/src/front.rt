@@ -10,7 +10,7 @@ ghost use Rattle.websocket_front.specs.Fronted.{close_of_code, with_causes};
 ghost use Rattle.websocket_front.specs.Reading.{Gives, GivesOne, Fails, FailsOnce, IsGiven, GoesOn, GoesOnOne};
 ghost use Rattle.websocket_front.specs.Reading.{FailsBecause};
 
-use crate::counted::Counted;
+use crate::counted_socket::CountedSocket;
 use crate::subprotocol::Subprotocol;
 use deliveries::Text;
 use std::alloc::Global;
@@ -55,7 +55,7 @@ pub enum Got {
 
 /// How a front ended.
 #[derive(Clone, Copy, Debug, PartialEq)]
-pub(crate) enum Ending {
+pub(crate) enum FrontEnd {
     /// The client closed.
     Closed,
     /// It failed.
@@ -76,12 +76,12 @@ pub(crate) enum Meaning {
 /// A session's WebSocket on a stream.
 #[derive(Drop)]
 pub struct Front<S: Read + Write + Drop> {
-    pub(crate) socket: Counted<S>,
+    pub(crate) socket: CountedSocket<S>,
     pub(crate) subprotocol: Subprotocol,
     // The text of the item that was put last, whose lines before a place are in frames.
     pub(crate) begun: Option<Text>,
     pub(crate) place: usize,
-    pub(crate) ending: Option<Ending>,
+    pub(crate) ending: Option<FrontEnd>,
 }
 
 impl<S: Read + Write + Drop> Model for Front<S> {
@@ -230,7 +230,7 @@ impl<S: Read + Write + Drop> Front<S> {
         ensures stays_open { result.is_open ≡ true }
     {
         Front {
-            socket: Counted::new(alloc, socket),
+            socket: CountedSocket::new(alloc, socket),
             subprotocol,
             begun: None,
             place: 0,
@@ -273,8 +273,8 @@ impl<S: Read + Write + Drop> Front<S> {
         ensures subprotocol { self.new.subprotocol ≡ self.old.subprotocol }
     {
         match self.ending {
-            Some(Ending::Closed) => return Ok(Got::Closed),
-            Some(Ending::Failed(fault)) => return Err(fault),
+            Some(FrontEnd::Closed) => return Ok(Got::Closed),
+            Some(FrontEnd::Failed(fault)) => return Err(fault),
             None => {}
         }
         for turn in 0..usize::MAX {
@@ -301,8 +301,8 @@ impl<S: Read + Write + Drop> Front<S> {
         ensures subprotocol { self.new.subprotocol ≡ self.old.subprotocol }
     {
         match self.ending {
-            Some(Ending::Closed) => Ok(Some(Got::Closed)),
-            Some(Ending::Failed(fault)) => Err(fault),
+            Some(FrontEnd::Closed) => Ok(Some(Got::Closed)),
+            Some(FrontEnd::Failed(fault)) => Err(fault),
             None => self.read_open(),
         }
     }
@@ -330,20 +330,20 @@ impl<S: Read + Write + Drop> Front<S> {
             Ok(Message::Close(_)) => {
                 let _ = self.socket.flush();
                 self.begun = None;
-                self.ending = Some(Ending::Closed);
+                self.ending = Some(FrontEnd::Closed);
                 Ok(Some(Got::Closed))
             }
             Err(error) => match meaning_of(&error) {
                 Meaning::Later => Ok(Some(Got::Nothing)),
                 Meaning::Closed => {
                     self.begun = None;
-                    self.ending = Some(Ending::Closed);
+                    self.ending = Some(FrontEnd::Closed);
                     Ok(Some(Got::Closed))
                 }
                 Meaning::Fault(fault) => {
                     self.socket.refuse(&error, was_open);
                     self.begun = None;
-                    self.ending = Some(Ending::Failed(fault));
+                    self.ending = Some(FrontEnd::Failed(fault));
                     Err(fault)
                 }
             },
@@ -368,7 +368,7 @@ impl<S: Read + Write + Drop> Front<S> {
                 let was_open = self.socket.get().can_write();
                 self.socket.refuse(&Error::OutOfMemory, was_open);
                 self.begun = None;
-                self.ending = Some(Ending::Failed(FrontFault::Memory));
+                self.ending = Some(FrontEnd::Failed(FrontFault::Memory));
                 Err(FrontFault::Memory)
             }
         }

@@ -9,10 +9,10 @@ ghost use Rattle.websocket_front.specs.Faults.{is_shortage, greet_fault_of};
 ghost use Rattle.websocket_front.specs.Fronted.{IsGreeted};
 ghost use Rattle.websocket_front.specs.Greetings.{IsRefused, IsUngreeted};
 
-use crate::asking::asked;
 use crate::front::{Front, limits};
-use crate::heard::Heard;
-use crate::shaken::{Greeting, Ungreeted};
+use crate::handshake::{Handshake, HandshakeRefusal};
+use crate::handshake_request::subprotocol_of;
+use crate::handshake_stream::HandshakeStream;
 use std::alloc::Global;
 use std::io;
 use std::io::{ErrorKind, Read, Write};
@@ -41,7 +41,7 @@ pub enum Greeted<S: Read + Write + Drop> {
     /// It is done.
     Done(Front<S>),
     /// The stream has or takes nothing now: go on when it does.
-    Later(Greeting<S>),
+    Later(Handshake<S>),
 }
 
 /// Whether an error of a stream says that there was no memory.
@@ -78,13 +78,13 @@ pub(crate) fn fault_of(error: &Error) -> GreetFault
 /// The front of a client whose request was answered, which is all that was heard of it.
 pub(crate) fn front_of<S: Read + Write + Drop>(
     alloc: Global,
-    heard: Heard<S>,
+    heard: HandshakeStream<S>,
 ) -> Result<Front<S>, Error>
     ensures greeted { IfOk result IsGreeted }
     ensures refused { IfErr result (IsRefused heard.octets.items) }
 {
-    let Heard { stream, octets } = heard;
-    let subprotocol = match asked(&octets) {
+    let HandshakeStream { stream, octets } = heard;
+    let subprotocol = match subprotocol_of(&octets) {
         Ok(subprotocol) => subprotocol,
         Err(error) => return Err(Error::Handshake(error)),
     };
@@ -94,11 +94,11 @@ pub(crate) fn front_of<S: Read + Write + Drop>(
 
 /// Greets the client of a stream whose reads wait. Where the stream has or takes nothing it tries again, 1,024 times
 /// in all; then it is a fault of the stream.
-pub fn greet<S: Read + Write + Drop>(alloc: Global, stream: S) -> Result<Front<S>, Ungreeted>
+pub fn greet<S: Read + Write + Drop>(alloc: Global, stream: S) -> Result<Front<S>, HandshakeRefusal>
     ensures greeted { IfOk result IsGreeted }
     ensures cause { IfErr result IsUngreeted }
 {
-    let mut greeting = Greeting::new(alloc, stream);
+    let mut greeting = Handshake::new(alloc, stream);
     for turn in 0..TRIES {
         match greeting.go_on()? {
             Greeted::Done(front) => return Ok(front),

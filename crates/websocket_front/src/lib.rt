@@ -2,20 +2,20 @@
 //! 6455 and the IRCv3 WebSocket specification).
 #![tactic(auto)]
 
-mod asking;
-mod counted;
+mod counted_socket;
 mod front;
 mod greeting;
-mod heard;
+mod handshake;
+mod handshake_request;
+mod handshake_stream;
 mod laws;
 mod sending;
-mod shaken;
 mod subprotocol;
 
-pub use counted::Causes;
+pub use counted_socket::Causes;
 pub use front::{Front, FrontFault, Got, close_for_memory};
 pub use greeting::{GreetFault, Greeted, greet};
+pub use handshake::{Handshake, HandshakeRefusal};
 pub use laws::lines_stay;
-pub use shaken::{Greeting, Ungreeted};
 pub use subprotocol::Subprotocol;
 pub use tungstenite::CloseCode;

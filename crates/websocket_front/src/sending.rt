@@ -13,8 +13,8 @@ ghost use Rattle.websocket_front.specs.Frames.{IsNext};
 ghost use Rattle.websocket_front.specs.Fronted.{with_causes, waiting, waiting_with, output_with_close};
 ghost use Rattle.websocket_front.specs.Fronted.{GoesOut, FramesNext, IsOut, IsUnsent, IsNotOut};
 
-use crate::counted::Counted;
-use crate::front::{Ending, Front, FrontFault};
+use crate::counted_socket::CountedSocket;
+use crate::front::{Front, FrontEnd, FrontFault};
 use crate::subprotocol::Subprotocol;
 use deliveries::Item;
 use std::io::{Read, Write};
@@ -52,7 +52,7 @@ fn line_end(text: &[u8], place: usize) -> usize
 
 /// The line that begins at a place as a message, and where the next begins.
 fn next_message<S: Read + Write + Drop>(
-    socket: &mut Counted<S>,
+    socket: &mut CountedSocket<S>,
     subprotocol: Subprotocol,
     text: &[u8],
     place: usize,
@@ -73,7 +73,7 @@ fn next_message<S: Read + Write + Drop>(
 /// begins.
 #[tactic(auto, using(crate::proofs::Growing::grows_trans, crate::proofs::Growing::answers_after))]
 fn frame_line<S: Read + Write + Drop>(
-    socket: &mut Counted<S>,
+    socket: &mut CountedSocket<S>,
     subprotocol: Subprotocol,
     text: &[u8],
     place: usize,
@@ -123,8 +123,8 @@ impl<S: Read + Write + Drop> Front<S> {
         ensures subprotocol { self.new.subprotocol ≡ self.old.subprotocol }
     {
         match self.ending {
-            Some(Ending::Closed) => return Err(FrontFault::Protocol),
-            Some(Ending::Failed(fault)) => return Err(fault),
+            Some(FrontEnd::Closed) => return Err(FrontFault::Protocol),
+            Some(FrontEnd::Failed(fault)) => return Err(fault),
             None => {}
         }
         if !self.socket.get().can_write() {
@@ -193,7 +193,7 @@ impl<S: Read + Write + Drop> Front<S> {
             Err(FrontFault::Memory) => Ok(Framed::Full),
             Err(fault) => {
                 self.begun = None;
-                self.ending = Some(Ending::Failed(fault));
+                self.ending = Some(FrontEnd::Failed(fault));
                 Err(fault)
             }
         }
@@ -218,8 +218,8 @@ impl<S: Read + Write + Drop> Front<S> {
         ensures subprotocol { self.new.subprotocol ≡ self.old.subprotocol }
     {
         match self.ending {
-            Some(Ending::Failed(FrontFault::Io)) => return Err(FrontFault::Io),
-            Some(Ending::Closed | Ending::Failed(_)) => return self.send_output(),
+            Some(FrontEnd::Failed(FrontFault::Io)) => return Err(FrontFault::Io),
+            Some(FrontEnd::Closed | FrontEnd::Failed(_)) => return self.send_output(),
             None => {}
         }
         let mut is_out = false;
@@ -257,7 +257,7 @@ impl<S: Read + Write + Drop> Front<S> {
             Ok(is_out) => Ok(is_out),
             Err(fault) => {
                 self.begun = None;
-                self.ending = Some(Ending::Failed(fault));
+                self.ending = Some(FrontEnd::Failed(fault));
                 Err(fault)
             }
         }
@@ -283,7 +283,7 @@ impl<S: Read + Write + Drop> Front<S> {
             }
         }
         self.begun = None;
-        self.ending = Some(Ending::Failed(FrontFault::Io));
+        self.ending = Some(FrontEnd::Failed(FrontFault::Io));
         Err(FrontFault::Io)
     }
 
@@ -316,8 +316,8 @@ impl<S: Read + Write + Drop> Front<S> {
         ensures subprotocol { self.new.subprotocol ≡ self.old.subprotocol }
     {
         match self.ending {
-            Some(Ending::Closed) => return Ok(()),
-            Some(Ending::Failed(fault)) => return Err(fault),
+            Some(FrontEnd::Closed) => return Ok(()),
+            Some(FrontEnd::Failed(fault)) => return Err(fault),
             None => {}
         }
         if !self.socket.get().can_write() {
@@ -331,7 +331,7 @@ impl<S: Read + Write + Drop> Front<S> {
             Err(FrontFault::Memory) => Err(FrontFault::Memory),
             Err(fault) => {
                 self.begun = None;
-                self.ending = Some(Ending::Failed(fault));
+                self.ending = Some(FrontEnd::Failed(fault));
                 Err(fault)
             }
         }

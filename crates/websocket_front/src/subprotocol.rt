@@ -4,7 +4,7 @@
 //! of the headers that it hands on; no clause ties the two.
 
 ghost use Rattle.std.specs.Prelude.{◌≡◌, map};
-ghost use Rattle.websocket_front.specs.Offers.{name_of, named, first_named, chosen, is_separator};
+ghost use Rattle.websocket_front.specs.Offers.{name_of, protocol_of, first_named, offer_chosen, is_separator};
 
 use http::header::GetAll;
 use http::{HeaderName, HeaderValue, Request, Response, StatusCode};
@@ -34,8 +34,8 @@ impl Subprotocol {
 }
 
 /// The subprotocol of this name.
-fn named(name: &[u8]) -> Option<Subprotocol>
-    ensures { result ≡ named name.now }
+fn by_name(name: &[u8]) -> Option<Subprotocol>
+    ensures { result ≡ protocol_of name.now }
 {
     if name == b"text.ircv3.net".as_slice() {
         Some(Subprotocol::Text)
@@ -54,28 +54,28 @@ fn is_separator(octet: u8) -> bool
 }
 
 /// The first subprotocol that a header's value names, a list parted by commas and white space.
-pub(crate) fn first_named(value: &[u8]) -> Option<Subprotocol>
+pub(crate) fn first_in_list(value: &[u8]) -> Option<Subprotocol>
     ensures { result ≡ first_named value.now }
 {
     let mut start = 0;
     for place in 0..value.len() {
         if is_separator(value[place]) {
-            let found = named(&value[start..place]);
+            let found = by_name(&value[start..place]);
             if found.is_some() {
                 return found;
             }
             start = place + 1;
         }
     }
-    named(&value[start..])
+    by_name(&value[start..])
 }
 
 /// The first subprotocol that is offered, of those that are served, by a header's values in their order.
-fn chosen(values: GetAll<'_, HeaderValue>) -> Option<Subprotocol>
-    ensures { result ≡ chosen (map (λ v. v.bytes) values.entry) }
+fn choose(values: GetAll<'_, HeaderValue>) -> Option<Subprotocol>
+    ensures { result ≡ offer_chosen (map (λ v. v.bytes) values.entry) }
 {
     for value in values {
-        let found = first_named(value.as_bytes());
+        let found = first_in_list(value.as_bytes());
         if found.is_some() {
             return found;
         }
@@ -109,7 +109,7 @@ impl Callback for Chooser {
         mut response: Response<()>,
     ) -> Result<Response<()>, ErrorResponse> {
         let offers = request.headers().get_all("sec-websocket-protocol");
-        let Some(subprotocol) = chosen(offers) else {
+        let Some(subprotocol) = choose(offers) else {
             return Ok(response);
         };
         let name = HeaderName::from_static("sec-websocket-protocol");

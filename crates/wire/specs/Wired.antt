@@ -7,7 +7,7 @@ use Rattle.deliveries.specs.declared.delivery.Delivery.TheVariants.{Lines, Last}
 use Rattle.deliveries.specs.declared.item.Item.{Item}
 use Rattle.deliveries.specs.Text.{delivery_text}
 use Rattle.outbox.specs.declared.rule.Log.{Log}
-use Rattle.wire.specs.declared.begun.Begun.{Begun}
+use Rattle.wire.specs.declared.item_write.ItemWrite.{ItemWrite}
 
 -- what items are as they go out, where this is their session's host
 abbrev pub texts : List ℕ → List Item → List ℕ
@@ -27,7 +27,7 @@ pub record GoesOut (old new : Option (List ℕ)) (text left : List ℕ) : Type 0
   pub parts : text ≡ gone ++ left
 
 -- what is left of an item that was begun
-abbrev pub rest_of : List ℕ → Option Begun → List ℕ
+abbrev pub rest_of : List ℕ → Option ItemWrite → List ℕ
 rest_of host None = []
 rest_of host (Some b) = drop b.count (delivery_text b.item.delivery host)
 
@@ -36,7 +36,7 @@ is_last (Lines number text) = false
 is_last (Last number why) = true
 
 -- of a session's last item nothing is written before all of it is, or the stream failed
-abbrev pub LastIsWhole : Option Begun → Type 0
+abbrev pub LastIsWhole : Option ItemWrite → Type 0
 LastIsWhole None = Unit {0}
 LastIsWhole (Some b) = is_last b.item.delivery ≡ true → b.count ≡ 0
 

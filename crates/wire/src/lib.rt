@@ -1,11 +1,11 @@
 //! A session's wire: what its writer takes, on its way to a stream.
 #![tactic(auto)]
 
-mod begun;
-mod gathered;
+mod item_write;
 mod sink;
 mod stream;
 mod wire;
+mod write_buffer;
 
 pub use sink::Sink;
 pub use wire::{Flow, Wire};

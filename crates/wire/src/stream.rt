@@ -9,7 +9,7 @@ ghost use Rattle.wire.specs.Causes.{AreSame, HasCause, Faults};
 
 use crate::sink::Sink;
 use deliveries::{Delivery, Item, WriteFault, write_out};
-use ghosts::{Change, Snapshot, apply};
+use snapshots::{GhostChange, Snapshot, apply};
 use std::io;
 use std::io::{Error, ErrorKind, Write};
 
@@ -32,9 +32,9 @@ fn stop_of(error: &Error) -> Stop {
 }
 
 // One pause or one fault more.
-struct Counts;
+struct CountsAnswers;
 
-impl Change<u64, ()> for Counts {
+impl GhostChange<u64, ()> for CountsAnswers {
     ghost use Rattle.std.specs.Prelude.{◌+◌};
 
     ghost changed = { λ n s. n + 1 };
@@ -70,14 +70,14 @@ impl<W: Sink + Drop> Stream<W> {
     }
 
     /// What stopped a write is counted.
-    fn stopped(&mut self, stop: Stop) -> Stop
+    fn stop_with(&mut self, stop: Stop) -> Stop
         ensures inner { self.new.inner ≡ self.old.inner }
         ensures stop { result ≡ stop }
         ensures cause { HasCause result self.old self.new }
     {
         match stop {
-            Stop::Later => apply::<Counts, u64, ()>(&mut self.pauses, &()),
-            Stop::Fault(_) => apply::<Counts, u64, ()>(&mut self.faults, &()),
+            Stop::Later => apply::<CountsAnswers, u64, ()>(&mut self.pauses, &()),
+            Stop::Fault(_) => apply::<CountsAnswers, u64, ()>(&mut self.faults, &()),
         }
         stop
     }
@@ -92,9 +92,9 @@ impl<W: Sink + Drop> Stream<W> {
             (λ s. HasCause s self.old self.new) }
     {
         match self.inner.write(octets) {
-            Ok(0) if !octets.is_empty() => Err(self.stopped(Stop::Fault(WriteFault::Zero))),
+            Ok(0) if !octets.is_empty() => Err(self.stop_with(Stop::Fault(WriteFault::Zero))),
             Ok(count) => Ok(count),
-            Err(error) => Err(self.stopped(stop_of(&error))),
+            Err(error) => Err(self.stop_with(stop_of(&error))),
         }
     }
 
@@ -114,7 +114,7 @@ impl<W: Sink + Drop> Stream<W> {
     {
         let (count, written) = write_out(delivery, host, &mut self.inner);
         if let Err(fault) = &written {
-            self.stopped(Stop::Fault(*fault));
+            self.stop_with(Stop::Fault(*fault));
         }
         (count, written)
     }
@@ -130,7 +130,7 @@ impl<W: Sink + Drop> Stream<W> {
     {
         match self.inner.put(item, host) {
             Ok(()) => Ok(()),
-            Err(error) => Err(self.stopped(stop_of(&error))),
+            Err(error) => Err(self.stop_with(stop_of(&error))),
         }
     }
 
@@ -142,7 +142,7 @@ impl<W: Sink + Drop> Stream<W> {
     {
         match self.inner.flush() {
             Ok(()) => Ok(()),
-            Err(error) => Err(self.stopped(stop_of(&error))),
+            Err(error) => Err(self.stop_with(stop_of(&error))),
         }
     }
 }

@@ -10,16 +10,16 @@ ghost use Rattle.std.specs.Io.KnownBytes.{append_known};
 ghost use Rattle.wire.specs.declared.wire.Flow.TheVariants.{Idle, More, Behind, Ended};
 ghost use Rattle.wire.specs.Wired.{ends, is_last, IsInStep, IsSameWire};
 
-use crate::begun::Begun;
-use crate::gathered::Gathered;
+use crate::item_write::ItemWrite;
 use crate::sink::Sink;
 use crate::stream::Stop;
+use crate::write_buffer::WriteBuffer;
 use chronicle::SessionId;
 use deliveries::{Delivery, WriteFault};
-use ghosts::Snapshot;
 use line_grammar::Octets;
-use outbox::{Bell, ChannelName, Gauge, Writer};
+use outbox::{ChannelName, Gauge, Waker, Writer};
 use register::{Naming, Stub};
+use snapshots::Snapshot;
 use std::alloc::Global;
 use std::io::Write;
 use std::marker::Model;
@@ -47,9 +47,9 @@ pub enum Flow {
 pub struct Wire<L: Naming, W: Write + Drop> {
     writer: Writer,
     stub: Stub<L, ChannelName>,
-    out: Gathered<W>,
+    out: WriteBuffer<W>,
     host: Octets,
-    begun: Option<Begun>,
+    begun: Option<ItemWrite>,
     has_last: bool,
     is_broken: bool,
     writer_before: Snapshot<Writer>,
@@ -126,7 +126,7 @@ impl<L: Naming, W: Sink + Drop> Wire<L, W> {
         let Ok(gauge) = writer.gauge().again() else {
             return Err((writer, stub, host));
         };
-        let Ok(out) = Gathered::new(alloc, stream, gauge) else {
+        let Ok(out) = WriteBuffer::new(alloc, stream, gauge) else {
             return Err((writer, stub, host));
         };
         Ok(Wire {
@@ -159,7 +159,7 @@ impl<L: Naming, W: Sink + Drop> Wire<L, W> {
         };
         self.has_last = is_last(item.delivery());
         if !keeps(item.delivery(), &mut self.out) {
-            self.begun = Some(Begun::new(item));
+            self.begun = Some(ItemWrite::new(item));
         }
         true
     }
@@ -260,7 +260,7 @@ impl<L: Naming, W: Sink + Drop> Wire<L, W> {
     }
 
     /// The bell that ends a rest of whoever pumps.
-    pub fn bell(&self) -> &Bell {
+    pub fn bell(&self) -> &Waker {
         self.writer.bell()
     }
 
@@ -315,7 +315,7 @@ fn is_last(delivery: &Delivery) -> bool
 
 /// Has the text of lines wait, where there is room for all of it, and answers whether there was. A session's last item
 /// never waits so.
-fn keeps<W: Sink + Drop>(delivery: &Delivery, out: &mut Gathered<W>) -> bool
+fn keeps<W: Sink + Drop>(delivery: &Delivery, out: &mut WriteBuffer<W>) -> bool
     ensures stream { out.new.stream ≡ out.old.stream }
     ensures kept { result ≡ true → (host : List ℕ) → out.new.waiting.items
         ≡ out.old.waiting.items ++ delivery_text delivery.now host }

@@ -3,7 +3,7 @@ ghost use Rattle.std.specs.Prelude.{◌≡◌, ◌++◌, true, List, length};
 ghost use Rattle.crossbeam_channel.specs.Claims.{IsSeatAt};
 ghost use Rattle.crossbeam_channel.specs.Ends.{receives_on};
 ghost use Rattle.deliveries.specs.declared.item.Item.{Item as Delivered};
-ghost use Rattle.outbox.specs.Ends.{known};
+ghost use Rattle.outbox.specs.Ends.{known_by};
 
 use crate::rule::{Drain, InOrder, Log};
 use crossbeam_channel::{Pass, RuledReceiver};
@@ -17,9 +17,9 @@ pub(super) fn drain<R: Wait>(
     mut pass: Pass<Item, Log>,
 ) -> u64
     requires channel { IsSeatAt (receives_on receiver.now) pass }
-    requires sends { (known pass).sends ≡ true }
-    requires takes { (known pass).takes ≡ true }
-    ensures { (left : List Delivered) × ((known pass).sent ≡ (known pass).got ++ left)
+    requires sends { (known_by pass).sends ≡ true }
+    requires takes { (known_by pass).takes ≡ true }
+    ensures { (left : List Delivered) × ((known_by pass).sent ≡ (known_by pass).got ++ left)
         × (result ≡ length left) }
 {
     for count in 0..u64::MAX {

@@ -3,8 +3,8 @@ use client_streams::websocket_front::CloseCode;
 use client_streams::{Framing, Web};
 use deliveries::Item;
 use mio::net::TcpStream;
-use session_io::hall::Naming;
-use session_io::hall::outbox::Gauge;
+use session_io::book::Naming;
+use session_io::book::outbox::Gauge;
 use session_io::wire::Sink;
 use session_io::{Backlog, Outlet};
 use std::io;
@@ -19,49 +19,49 @@ const MUCH: u64 = 65_536;
 /// What a session's items go out on, to which several threads may write, one at a time: octets as they are, or
 /// frames of their lines.
 #[derive(Drop)]
-pub(crate) enum Output<R: Wait + Copy + Drop> {
+pub(crate) enum ClientOutput<R: Wait + Copy + Drop> {
     Octets(Arc<TcpStream>),
     Frames(Framing<R>),
 }
 
-impl<R: Wait + Copy + Drop> Output<R> {
+impl<R: Wait + Copy + Drop> ClientOutput<R> {
     /// What a connection's items go out on.
-    pub(crate) fn of<L: Naming>(connection: &Connection<L, R>) -> Option<Output<R>> {
+    pub(crate) fn of<L: Naming>(connection: &Connection<L, R>) -> Option<ClientOutput<R>> {
         if let Some(web) = &connection.web {
-            return Some(Output::Frames(Framing::new(web.again()?)));
+            return Some(ClientOutput::Frames(Framing::new(web.again()?)));
         }
         match Arc::try_clone(&connection.stream) {
-            Ok(stream) => Some(Output::Octets(stream)),
+            Ok(stream) => Some(ClientOutput::Octets(stream)),
             Err(_) => None,
         }
     }
 }
 
-impl<R: Wait + Copy + Drop> Write for Output<R> {
+impl<R: Wait + Copy + Drop> Write for ClientOutput<R> {
     fn write(&mut self, buf: &[u8]) -> io::Result<usize> {
         match self {
-            Output::Octets(stream) => (&**stream).write(buf),
-            Output::Frames(_) => Err(Error::from(ErrorKind::Unsupported)),
+            ClientOutput::Octets(stream) => (&**stream).write(buf),
+            ClientOutput::Frames(_) => Err(Error::from(ErrorKind::Unsupported)),
         }
     }
 
     fn flush(&mut self) -> io::Result<()> {
         match self {
-            Output::Octets(_) => Ok(()),
-            Output::Frames(framing) => framing.flush(),
+            ClientOutput::Octets(_) => Ok(()),
+            ClientOutput::Frames(framing) => framing.flush(),
         }
     }
 }
 
-impl<R: Wait + Copy + Drop> Sink for Output<R> {
+impl<R: Wait + Copy + Drop> Sink for ClientOutput<R> {
     fn takes_items(&self) -> bool {
-        matches!(self, Output::Frames(_))
+        matches!(self, ClientOutput::Frames(_))
     }
 
     fn put(&mut self, item: &Item, host: &[u8]) -> io::Result<()> {
         match self {
-            Output::Octets(_) => Err(Error::from(ErrorKind::Unsupported)),
-            Output::Frames(framing) => framing.put(item, host),
+            ClientOutput::Octets(_) => Err(Error::from(ErrorKind::Unsupported)),
+            ClientOutput::Frames(framing) => framing.put(item, host),
         }
     }
 }
@@ -69,7 +69,7 @@ impl<R: Wait + Copy + Drop> Sink for Output<R> {
 /// A session's connection, which one worker reads and ends, at a place of its own, and any thread may write to.
 #[derive(Drop)]
 pub(crate) struct Connection<L: Naming, R: Wait + Copy + Drop> {
-    pub(crate) outlet: Outlet<L, Output<R>>,
+    pub(crate) outlet: Outlet<L, ClientOutput<R>>,
     pub(crate) stream: Arc<TcpStream>,
     /// Its WebSocket, where it has one.
     pub(crate) web: Option<Web<R>>,
@@ -151,6 +151,6 @@ impl<L: Naming, R: Wait + Copy + Drop> Connection<L, R> {
 
 impl<L: Naming, R: Wait + Copy + Drop> Backlog for Connection<L, R> {
     fn is_much(&self) -> bool {
-        MUCH < self.gauge.waiting()
+        MUCH < self.gauge.waiting_octets()
     }
 }

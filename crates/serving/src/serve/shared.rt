@@ -1,15 +1,15 @@
 //! What the threads of a server share, and what each of them does.
 use super::Options;
-use super::doors::Doors;
+use super::event_sources::EventSources;
 use crate::accepting::Acceptor;
-use crate::connections::{Connections, Serving, View};
-use crate::events::Event;
+use crate::connections::{Connections, Serving, ThreadHost};
+use crate::events::LogEvent;
+use crate::mailbox::Watch;
 use crate::news::Teller;
-use crate::post::Watch;
 use crate::worker::Worker;
 use chronicle::{SessionId, Why};
-use session_io::hall::outbox::Sender;
-use session_io::hall::{Hall, Naming};
+use session_io::book::outbox::Sender;
+use session_io::book::{Hall, Naming};
 use session_io::{Gate, Server, Sockets, moment_in};
 use std::alloc::Global;
 use std::sync::{Mutex, Wait};
@@ -68,8 +68,8 @@ pub(super) struct Shared<'a, L: Naming, R: Wait + Clock + Copy + Drop, G: Gate, 
 
 impl<L: Naming, R: Wait + Clock + Copy + Drop, G: Gate, C: crate::Clock> Shared<'_, L, R, G, C> {
     /// The connections as a worker works with them; as a thread that is none, where the number is that of the workers.
-    fn view(&self, worker: usize) -> View<'_, L, R, G, C> {
-        View {
+    fn view(&self, worker: usize) -> ThreadHost<'_, L, R, G, C> {
+        ThreadHost {
             all: self.connections,
             gate: self.config.gate,
             clock: self.config.clock,
@@ -79,7 +79,7 @@ impl<L: Naming, R: Wait + Clock + Copy + Drop, G: Gate, C: crate::Clock> Shared<
     }
 
     /// The server as the thread knows it that has this view.
-    fn server<'b>(&'b self, view: &'b View<'b, L, R, G, C>) -> Serving<'b, L, R, G, C> {
+    fn server<'b>(&'b self, view: &'b ThreadHost<'b, L, R, G, C>) -> Serving<'b, L, R, G, C> {
         Server {
             hall: self.hall,
             host: view,
@@ -103,7 +103,7 @@ impl<L: Naming, R: Wait + Clock + Copy + Drop, G: Gate, C: crate::Clock> Shared<
         &self,
         rt: &'a R,
         alloc: Global,
-        doors: &'a mut Doors,
+        doors: &'a mut EventSources,
         teller: Option<&'a Teller>,
     ) {
         let view = self.view(self.config.workers);
@@ -120,7 +120,7 @@ impl<L: Naming, R: Wait + Clock + Copy + Drop, G: Gate, C: crate::Clock> Shared<
     }
 
     /// Ends a session that is open, since the server stops, and answers whether there was one.
-    fn hang_next(&self, rt: &R, view: &View<'_, L, R, G, C>) -> bool {
+    fn hang_next(&self, rt: &R, view: &ThreadHost<'_, L, R, G, C>) -> bool {
         let hung = self.hang_in(&mut *self.hall.lock(rt));
         match hung {
             Some(session) => {
@@ -154,11 +154,11 @@ pub(super) fn run_on<
     rt: &R,
     alloc: Global,
     shared: &Shared<'_, L, R, G, C>,
-    doors: &mut Doors,
+    doors: &mut EventSources,
     teller: Option<&Teller>,
 ) -> bool {
     let watches = mem::replace(&mut doors.watches, Vec::new(alloc));
-    shared.connections.note(Event::Started(watches.len()));
+    shared.connections.note(LogEvent::Started(watches.len()));
     let is_run = thread::scope(thread::scope_env(), rt, |scope| {
         let mut are_started = true;
         for (worker, watch) in watches.into_iter().enumerate() {
@@ -174,6 +174,6 @@ pub(super) fn run_on<
         shared.end_all(rt);
         are_started
     });
-    shared.connections.note(Event::Ended);
+    shared.connections.note(LogEvent::Ended);
     is_run
 }

@@ -2,29 +2,29 @@
 use crate::connections::Connection;
 use chronicle::SessionId;
 use client_streams::{Payloads, Web};
-use session_io::Intake;
-use session_io::hall::outbox::Sender;
-use session_io::hall::{Baton, Naming};
+use session_io::ReceiveBuffer;
+use session_io::book::outbox::Sender;
+use session_io::book::{Baton, Naming};
 use std::alloc::Global;
 use std::sync::{Arc, Wait};
 
 /// What is read of a client.
 #[derive(Drop)]
-pub(crate) struct Input<R: Wait + Copy + Drop> {
-    pub(crate) intake: Intake,
+pub(crate) struct ClientInput<R: Wait + Copy + Drop> {
+    pub(crate) intake: ReceiveBuffer,
     /// The payloads of its messages, where it came by WebSocket.
     pub(crate) payloads: Option<Payloads<R>>,
 }
 
-impl<R: Wait + Copy + Drop> Input<R> {
+impl<R: Wait + Copy + Drop> ClientInput<R> {
     /// Nothing was read. It answers `None` where there is no memory for it.
-    pub(crate) fn new(alloc: Global, web: &Option<Web<R>>) -> Option<Input<R>> {
+    pub(crate) fn new(alloc: Global, web: &Option<Web<R>>) -> Option<ClientInput<R>> {
         let payloads = match web {
             Some(web) => Some(Payloads::new(alloc, web.again()?)),
             None => None,
         };
-        match Intake::new(alloc) {
-            Ok(intake) => Some(Input { intake, payloads }),
+        match ReceiveBuffer::new(alloc) {
+            Ok(intake) => Some(ClientInput { intake, payloads }),
             Err(_) => None,
         }
     }
@@ -44,7 +44,7 @@ pub(crate) struct Client<L: Naming, R: Wait + Copy + Drop> {
     pub(crate) session: SessionId,
     pub(crate) baton: Baton<L, Sender<R>>,
     pub(crate) connection: Arc<Connection<L, R>>,
-    pub(crate) input: Input<R>,
+    pub(crate) input: ClientInput<R>,
     /// It stands in the list of those who may have more to be read.
     pub(crate) is_listed: bool,
     /// So much waits for it that nothing more of it is done before less does.
@@ -61,7 +61,7 @@ impl<L: Naming, R: Wait + Copy + Drop> Client<L, R> {
     pub(crate) fn new(
         baton: Baton<L, Sender<R>>,
         connection: Arc<Connection<L, R>>,
-        input: Input<R>,
+        input: ClientInput<R>,
     ) -> Client<L, R> {
         Client {
             session: baton.session(),

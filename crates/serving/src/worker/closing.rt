@@ -1,14 +1,14 @@
 //! A worker ends its clients' sessions.
 use super::client::Client;
-use super::places::Place;
-use super::sessions::Tokens;
+use super::client_slab::Slot;
+use super::connecting::SessionTokens;
 use super::{Context, SHOWN, Worker};
 use crate::connections::Connection;
 use chronicle::{SessionId, Why};
 use client_streams::LINGER_TRIES;
 use client_streams::websocket_front::CloseCode;
-use session_io::hall::Naming;
-use session_io::{Gate, GivenUp, Standing, Swept, give_up, hang, sweep, write_some};
+use session_io::book::Naming;
+use session_io::{Gate, ReapOutcome, Standing, SweepOutcome, give_up, hang, sweep, write_some};
 use std::mem;
 use std::sync::{Arc, Wait};
 use std::time::Clock;
@@ -24,7 +24,7 @@ impl<L: Naming, R: Wait + Clock + Copy + Drop, G: Gate, C: crate::Clock> Worker<
     /// Looks at the client at a place, if there is one, and ends it where its writing is over.
     pub(super) fn look(&mut self, at: usize, is_pause: bool) {
         let mut ended = None;
-        if let Some(Place::Held(client)) = self.places.all.get_mut(at) {
+        if let Some(Slot::Held(client)) = self.places.all.get_mut(at) {
             ended = self.context.look(at, client, is_pause);
         }
         if let Some(code) = ended {
@@ -44,8 +44,8 @@ impl<L: Naming, R: Wait + Clock + Copy + Drop, G: Gate, C: crate::Clock> Worker<
     }
 
     /// Has the session at a place given up.
-    pub(super) fn leave(&mut self, at: usize, tokens: Tokens<L, R>) {
-        self.places.put(at, Place::Leaving(tokens));
+    pub(super) fn leave(&mut self, at: usize, tokens: SessionTokens<L, R>) {
+        self.places.put(at, Slot::Leaving(tokens));
         if self.context.closing.push(at).is_err() {
             self.context.look_again(at);
         }
@@ -58,7 +58,7 @@ impl<L: Naming, R: Wait + Clock + Copy + Drop, G: Gate, C: crate::Clock> Worker<
         };
         match self.context.give_up(tokens) {
             Some(tokens) => {
-                self.places.put(at, Place::Leaving(tokens));
+                self.places.put(at, Slot::Leaving(tokens));
                 self.context.look_again(at);
             }
             None => self.free(at),
@@ -141,7 +141,7 @@ impl<L: Naming, R: Wait + Clock + Copy + Drop, G: Gate, C: crate::Clock> Context
 
     /// Ends a client's connection, and answers the tokens of its session, which are whole, since nobody reads it now
     /// and nobody else ends it.
-    fn disconnect(&mut self, client: Client<L, R>, code: CloseCode) -> Option<Tokens<L, R>> {
+    fn disconnect(&mut self, client: Client<L, R>, code: CloseCode) -> Option<SessionTokens<L, R>> {
         self.server.host.all.remove(client.session);
         let Client {
             baton,
@@ -157,7 +157,7 @@ impl<L: Naming, R: Wait + Clock + Copy + Drop, G: Gate, C: crate::Clock> Context
         };
         let (writer, stub) = wire.apart();
         self.part(&connection, code, tries);
-        Some(Tokens {
+        Some(SessionTokens {
             baton,
             stub,
             writer,
@@ -182,17 +182,17 @@ impl<L: Naming, R: Wait + Clock + Copy + Drop, G: Gate, C: crate::Clock> Context
 
     /// Gives a session up. Its tokens come back where that can't be, unless the server is closed: all are shut then,
     /// and nobody is told that it is gone.
-    fn give_up(&self, tokens: Tokens<L, R>) -> Option<Tokens<L, R>> {
-        let Tokens {
+    fn give_up(&self, tokens: SessionTokens<L, R>) -> Option<SessionTokens<L, R>> {
+        let SessionTokens {
             baton,
             stub,
             writer,
         } = tokens;
-        let GivenUp { left, .. } = give_up(self.rt, self.server, baton, stub, writer);
+        let ReapOutcome { left, .. } = give_up(self.rt, self.server, baton, stub, writer);
         match left {
             Ok(_) => None,
             Err(_) if self.server.host.all.is_closed() => None,
-            Err((_, baton, stub, writer)) => Some(Tokens {
+            Err((_, baton, stub, writer)) => Some(SessionTokens {
                 baton,
                 stub,
                 writer,
@@ -216,7 +216,7 @@ impl<L: Naming, R: Wait + Clock + Copy + Drop, G: Gate, C: crate::Clock> Context
             {
                 break;
             }
-            let Swept { answer, ended, .. } = sweep(self.rt, self.server, &mut self.told);
+            let SweepOutcome { answer, ended, .. } = sweep(self.rt, self.server, &mut self.told);
             match answer {
                 Ok(Some(_)) => self.note_gone(ended),
                 Ok(None) => return most.saturating_sub(swept),

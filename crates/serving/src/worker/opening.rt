@@ -1,16 +1,16 @@
 //! A worker opens sessions for those who connected.
-use super::client::{Client, Input};
-use super::places::Place;
-use super::sessions::{Connected, Incoming, Opened, write_rest};
+use super::client::{Client, ClientInput};
+use super::client_slab::Slot;
+use super::connecting::{Connected, Incoming, Opened, write_rest};
 use super::{Context, Worker};
 use crate::connections::{NO_MEMORY, NO_PLACE};
-use crate::post::Arrival;
+use crate::mailbox::Arrival;
 use chronicle::Why;
 use client_streams::websocket_front::CloseCode;
 use mio::net::TcpStream;
 use mio::{Interest, Token};
 use session_io::Gate;
-use session_io::hall::Naming;
+use session_io::book::Naming;
 use std::io;
 use std::sync::{Arc, Wait};
 use std::time::Clock;
@@ -68,13 +68,13 @@ impl<L: Naming, R: Wait + Clock + Copy + Drop, G: Gate, C: crate::Clock> Worker<
 
     /// Opens a session for who connected, at a place. It answers whether the place is taken now.
     fn open_at(&mut self, at: usize, incoming: Incoming<R>) -> bool {
-        let Some(input) = Input::new(self.context.alloc, &incoming.web) else {
+        let Some(input) = ClientInput::new(self.context.alloc, &incoming.web) else {
             return false;
         };
         match self.context.connect(at, incoming) {
             Some(Connected::Wired(baton, connection)) => {
                 let client = Client::new(baton, connection, input);
-                self.places.put(at, Place::Held(client));
+                self.places.put(at, Slot::Held(client));
                 true
             }
             Some(Connected::Refused(opened)) => {

@@ -1,13 +1,13 @@
 //! A worker reads its clients.
-use super::client::{Client, Input};
-use super::places::Place;
+use super::client::{Client, ClientInput};
+use super::client_slab::Slot;
 use super::{Context, Worker};
 use crate::connections::Connection;
 use chronicle::Why;
-use session_io::hall::outbox::Sender;
-use session_io::hall::{Baton, Naming};
+use session_io::book::outbox::Sender;
+use session_io::book::{Baton, Naming};
 use session_io::wire::Flow;
-use session_io::{Gate, Intake, Next, read_some};
+use session_io::{Gate, Next, ReceiveBuffer, read_some};
 use std::io;
 use std::io::Read;
 use std::sync::Wait;
@@ -23,12 +23,12 @@ pub(super) struct Readiness {
 
 /// An input, and how many octets were read of it.
 #[derive(Drop)]
-struct Counted<'a, I: Read> {
+struct CountedStream<'a, I: Read> {
     input: &'a mut I,
     count: u64,
 }
 
-impl<I: Read> Read for Counted<'_, I> {
+impl<I: Read> Read for CountedStream<'_, I> {
     fn read(&mut self, buf: &mut [u8]) -> io::Result<usize> {
         let count = self.input.read(buf)?;
         self.count = self.count.saturating_add(count as u64);
@@ -39,7 +39,7 @@ impl<I: Read> Read for Counted<'_, I> {
 impl<L: Naming, R: Wait + Clock + Copy + Drop, G: Gate, C: crate::Clock> Worker<'_, L, R, G, C> {
     /// Sees to a client that something happened to.
     pub(super) fn see_to(&mut self, at: usize, ready: Readiness) {
-        if let Some(Place::Held(client)) = self.places.all.get_mut(at) {
+        if let Some(Slot::Held(client)) = self.places.all.get_mut(at) {
             return self.context.see_to(at, client, ready);
         }
         self.greet(at);
@@ -51,7 +51,7 @@ impl<L: Naming, R: Wait + Clock + Copy + Drop, G: Gate, C: crate::Clock> Worker<
         let Some(at) = self.context.more.pop_front() else {
             return;
         };
-        if let Some(Place::Held(client)) = self.places.all.get_mut(at) {
+        if let Some(Slot::Held(client)) = self.places.all.get_mut(at) {
             client.is_listed = false;
             self.context.read(at, client, true);
         }
@@ -59,7 +59,7 @@ impl<L: Naming, R: Wait + Clock + Copy + Drop, G: Gate, C: crate::Clock> Worker<
 
     /// Has the client at a place read in its turn.
     pub(crate) fn list(&mut self, at: usize) {
-        if let Some(Place::Held(client)) = self.places.all.get_mut(at) {
+        if let Some(Slot::Held(client)) = self.places.all.get_mut(at) {
             self.context.list(at, client);
         }
     }
@@ -152,7 +152,7 @@ impl<L: Naming, R: Wait + Clock + Copy + Drop, G: Gate, C: crate::Clock> Context
         let Client {
             baton,
             connection,
-            input: Input { intake, payloads },
+            input: ClientInput { intake, payloads },
             ..
         } = client;
         let connection = &**connection;
@@ -169,11 +169,11 @@ impl<L: Naming, R: Wait + Clock + Copy + Drop, G: Gate, C: crate::Clock> Context
     fn read_input<I: Read>(
         &mut self,
         connection: &Connection<L, R>,
-        intake: &mut Intake,
+        intake: &mut ReceiveBuffer,
         baton: &mut Baton<L, Sender<R>>,
         input: &mut I,
     ) -> Next {
-        let mut input = Counted { input, count: 0 };
+        let mut input = CountedStream { input, count: 0 };
         let told = &mut self.told;
         let took = read_some(
             self.rt,
@@ -208,7 +208,7 @@ impl<L: Naming, R: Wait + Clock + Copy + Drop, G: Gate, C: crate::Clock> Context
         // Another worker may have done it meanwhile.
         if all.kept.is_much() {
             match hall.roll() {
-                Ok(rolled) => all.rolled(rolled.dropped),
+                Ok(rolled) => all.note_roll(rolled.dropped),
                 Err(_) => all.kept.put_off(),
             }
         }

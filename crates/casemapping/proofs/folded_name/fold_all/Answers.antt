@@ -2,7 +2,7 @@ use Rattle.std.proofs.Common.{arith, ◌≡◌, ◌<◌, ◌++◌, [], length, t
 use Rattle.std.proofs.lemmas.List.{append-nil}
 use Rattle.std.proofs.lemmas.List.Edits.{map_over_more}
 use Rattle.std.proofs.lemmas.Grind.{common_steps}
-use Rattle.casemapping.specs.Fold.{fold_of, folded}
+use Rattle.casemapping.specs.Fold.{fold_of, name_fold}
 use Rattle.casemapping.proofs.folded_name.fold_all.Goals as goal
 
 pub loop-octet-preserved : goal.loop-octet-preserved
@@ -19,8 +19,8 @@ returns c =
     let all : take i xs ≡ xs = let out = c.loop-octet-test.false in grind (arith, common_steps) in
     let none : drop i xs ≡ [] = let out = c.loop-octet-test.false in grind (arith, common_steps) in
     let ys = c.loop-octet.octet-items in
-    let whole : ys ≡ folded xs = c.loop-octet.invariant ∙ ap (λ zs. folded zs ++ drop i xs) all ∙ ap
-    (λ zs. folded xs ++ zs) none ∙ append-nil (folded xs) in
+    let whole : ys ≡ name_fold xs = c.loop-octet.invariant ∙ ap (λ zs. name_fold zs ++ drop i xs) all ∙ ap
+    (λ zs. name_fold xs ++ zs) none ∙ append-nil (name_fold xs) in
     let same : take c.args.octets.now.len (ys ++ drop (length ys) xs) ≡ ys = let ok = c.args.octets.now.ok in
     let n = c.loop-octet.auto.octet-items in grind (arith, common_steps) in
     same ∙ whole

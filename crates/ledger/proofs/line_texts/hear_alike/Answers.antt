@@ -1,5 +1,5 @@
 use Rattle.std.proofs.Common.{◌≡◌, arith, sym, ◌∙◌}
-use Rattle.ledger.proofs.Heards.{alike_more, same_caps}
+use Rattle.ledger.proofs.FanOut.{alike_more, same_caps}
 use Rattle.ledger.proofs.line_texts.hear_alike.Goals as goal
 
 pub loop-place-preserved : goal.loop-place-preserved

@@ -1,7 +1,7 @@
 use Rattle.std.proofs.Common.{◌≡◌, List, length, take}
 use Rattle.std.specs.List.{flat_map}
 use Rattle.labels_batches.specs.Spellings.{Spelled}
-use Rattle.ledger.specs.Heard.{text_of}
+use Rattle.ledger.specs.FanOut.{text_of}
 use Rattle.ledger.proofs.line_texts.hear_alike.Given as goal
 
 -- what was compared so far makes the same text

@@ -1,7 +1,7 @@
 use Rattle.std.proofs.Common.{◌≡◌, ◌++◌, map, take, sym, ap, ◌∙◌}
 use Rattle.labels_batches.specs.Spellings.{Spelled}
-use Rattle.ledger.specs.Heard.{heard_by, delivery_of, deliveries_of}
-use Rattle.ledger.proofs.Heards.{heard_more}
+use Rattle.ledger.specs.FanOut.{heard_by, delivery_of, deliveries_of}
+use Rattle.ledger.proofs.FanOut.{heard_more}
 use Rattle.ledger.proofs.Ascending.{deliveries_more}
 use Rattle.ledger.proofs.plan.plan_line.Goals as goal
 

@@ -1,5 +1,5 @@
 use Rattle.std.proofs.Common.{◌≡◌, map, take}
-use Rattle.ledger.specs.Heard.{deliveries_of, heard_by}
+use Rattle.ledger.specs.FanOut.{deliveries_of, heard_by}
 use Rattle.ledger.proofs.plan.plan_line.Given as goal
 
 -- what is planned is for those hearers that were reached

@@ -1,11 +1,11 @@
 use Rattle.std.proofs.Common.{◌≡◌, ℕ, ◌-◌, ◌++◌, List, map, take, drop, sym, ap, ◌∙◌, append_assoc}
 use Rattle.std.specs.List.{flat_map}
 use Rattle.labels_batches.specs.Spellings.{Spelled}
-use Rattle.ledger.specs.declared.heard.Heard.{Heard}
-use Rattle.ledger.specs.declared.heard.Hearing.{Hearing}
+use Rattle.ledger.specs.declared.fan_out.Heard.{Heard}
+use Rattle.ledger.specs.declared.fan_out.Hearing.{Hearing}
 use Rattle.ledger.specs.declared.plan.Planned.{Planned}
-use Rattle.ledger.specs.Heard.{text_of, heard_of, joined, delivery_of, deliveries_of}
-use Rattle.ledger.proofs.Heards.{joined_from}
+use Rattle.ledger.specs.FanOut.{text_of, heard_of, one_each, delivery_of, deliveries_of}
+use Rattle.ledger.proofs.FanOut.{joined_from}
 use Rattle.ledger.proofs.plan.plan_others.Goals as goal
 
 pub loop-from-preserved : goal.loop-from-preserved
@@ -22,7 +22,7 @@ loop-from-preserved c =
       session = h.session;
       text = flat_map (text_of ls) (take (end - from) (drop from xs));
     } in
-    let rest = joined (map (heard_of ls) (drop end xs)) in
+    let rest = one_each (map (heard_of ls) (drop end xs)) in
     record {
       same = c.in_ok-text.ensures.same ∙ c.loop-from.invariant.same;
       within = c.run_end-end.ensures.within;

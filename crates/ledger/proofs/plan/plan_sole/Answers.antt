@@ -1,11 +1,11 @@
 use Rattle.std.proofs.Common.{◌≡◌, ◌++◌, ◌∷◌, [], ℕ, List, map, length, subst, ap, ◌∙◌}
 use Rattle.std.specs.Result.{IfOk}
-use Rattle.drafts.specs.declared.verdict.Shown.{Shown}
+use Rattle.transactions.specs.declared.verdict.ShownLine.{ShownLine}
 use Rattle.labels_batches.specs.Spellings.{Spelled}
 use Rattle.ledger.specs.declared.plan.Planned.{Planned}
 use Rattle.ledger.specs.Ledger.{others}
 use Rattle.ledger.specs.Seats.{told_to, heard_text}
-use Rattle.ledger.specs.Heard.{heard_by, deliveries_of, ascends}
+use Rattle.ledger.specs.FanOut.{heard_by, deliveries_of, ascends}
 use Rattle.ledger.proofs.Ascending.{deliveries_sole, others_sole}
 use Rattle.ledger.proofs.plan.plan_sole.Goals as goal
 
@@ -27,8 +27,8 @@ returns c =
     let by = c.args.by.now in let seats = by.seats.now in let s = by.actor in let n = by.number in
     let fs = by.roster.now.facts in let hs = c.in_ok-hearers.hearers in let line = c.args.shown.line in
     subst (λ (ps : List Planned). IfOk c.plan_lines.result (λ plan. plan.items ≡ ps))
-    (ap (λ (xs : List Shown). others (told_to seats n (heard_text fs by.moment xs)) s 1 (length seats))
-    (c.in_ok-push.ensures.items ∙ ap (λ (xs : List Shown). xs ++ record { hearers = hs; line = line } ∷ [])
+    (ap (λ (xs : List ShownLine). others (told_to seats n (heard_text fs by.moment xs)) s 1 (length seats))
+    (c.in_ok-push.ensures.items ∙ ap (λ (xs : List ShownLine). xs ++ record { hearers = hs; line = line } ∷ [])
     c.new-shown.ensures.items)
     ∙ others_sole seats s n fs by.moment line c.args.shown.hearers hs c.in_ok-hearers.ensures)
     c.plan_lines.ensures

@@ -1,15 +1,15 @@
 use Rattle.std.proofs.Common.{ℕ, List, Option, ap, ◌≡◌, ◌∙◌, subst}
 use Rattle.roster.specs.LookBack.{caps}
 use Rattle.labels_batches.specs.Labels.{label_of, piece_label}
-use Rattle.labels_batches.specs.Answers.{answered}
-use Rattle.labels_batches.specs.Rendered.{rendered}
+use Rattle.labels_batches.specs.Answers.{whole_answer}
+use Rattle.labels_batches.specs.Rendered.{text_as}
 use Rattle.commands.specs.declared.asked.Asked.{Asked}
 use Rattle.commands.specs.Asked.{asked_of}
 use Rattle.chronicle.specs.History.{is_quit}
-use Rattle.drafts.specs.Effects.{deeds_of}
+use Rattle.transactions.specs.Effects.{deeds_of}
 use Rattle.deeds.specs.Rows.{of_asked}
-use Rattle.drafts.specs.Verdicts.{IsVerdict}
-use Rattle.ledger.specs.Read.{counted}
+use Rattle.transactions.specs.Verdicts.{IsVerdict}
+use Rattle.ledger.specs.Read.{label_for}
 use Rattle.ledger.specs.Seats.{heard_text, planned_with}
 use Rattle.ledger.proofs.Plans.{planned_same}
 use Rattle.ledger.proofs.plan.prepare_line.Goals as goal
@@ -34,9 +34,9 @@ returns-clause-plan c =
     subst (λ (a : Asked). IsVerdict v s (of_asked g fs s a))
     (c.line.invariant.asks ∙ ap asked_of c.line.view_is) c.in_ok-verdict.ensures.verdict in
     let label : c.in_ok-label.label ≡ label_of (caps fs s) c.args.line.now =
-    c.in_ok-label.ensures ∙ ap (λ (l : Option (List ℕ)). counted (caps fs s) l)
+    c.in_ok-label.ensures ∙ ap (λ (l : Option (List ℕ)). label_for (caps fs s) l)
     (c.line.invariant.labelled ∙ ap piece_label c.line.view_is) in
     c.in_ok-with_room.ensures.plan
-    ∙ ap (λ (l : Option (List ℕ)). planned_with seats s n (rendered (caps fs s) m
-    (answered g.server l n v.reply.items v.copies.items)) (heard_text fs m v.others.items) q) label
+    ∙ ap (λ (l : Option (List ℕ)). planned_with seats s n (text_as (caps fs s) m
+    (whole_answer g.server l n v.reply.items v.copies.items)) (heard_text fs m v.others.items) q) label
     ∙ planned_same seats g fs s n (label_of (caps fs s) c.args.line.now) v (of_asked g fs s k) m q verdict

@@ -1,5 +1,5 @@
 use Rattle.std.proofs.Common.{◌≡◌, ◌-◌, ◌<◌, ◌≤◌, ℕ, length, slice_index_or}
-use Rattle.ledger.specs.declared.heard.Hearing.{Hearing}
+use Rattle.ledger.specs.declared.fan_out.Hearing.{Hearing}
 use Rattle.ledger.proofs.plan.run_end.Given as goal
 
 -- what stands before belongs to the session

@@ -13,7 +13,7 @@ pub loop-rest-preserved : goal.loop-rest-preserved
 loop-rest-preserved c =
     let found = c.loop-rest.found.items in let rest = c.loop-rest.rest.now in
     let few : length found + 1 < 15 = omega (arith, c.loop-rest-test.true, c.len.ensures) in
-    let word : c.in_ok-copied.field-0 ≡ before_space rest = c.in_ok-copied.ensures ∙ c.split_word.ensures.before in
+    let word : c.in_ok-copy_of.field-0 ≡ before_space rest = c.in_ok-copy_of.ensures ∙ c.split_word.ensures.before in
     let pushed : c.push.new.self.items ≡ found ++ before_space rest ∷ [] = c.in_ok-push.ensures.items ∙ ap
     (λ m. found ++ m ∷ []) word in
     leaves_less c.args.octets.now found _ rest _ c.loop-rest.invariant few

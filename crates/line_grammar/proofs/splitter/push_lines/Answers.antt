@@ -1,5 +1,5 @@
 use Rattle.std.proofs.Common.{◌++◌, ◌∙◌, sym, ap, append-nil, append_assoc}
-use Rattle.line_grammar.specs.Lines.{piece_of, lines, unfinished}
+use Rattle.line_grammar.specs.Lines.{piece_of, lines, open_line}
 use Rattle.line_grammar.proofs.Streams.{lines-none, lines-end, stays_with, unfinished-none, unfinished-end}
 use Rattle.line_grammar.proofs.splitter.push_lines.Goals as goal
 
@@ -10,7 +10,7 @@ loop-line-preserved c =
     let out = c.loop-line.out.items in (
       ap (λ xs. xs ++ lines more) c.in_ok-push_line.ensures.ok ∙ append_assoc out (piece_of line) (lines more) ∙ ap
           (λ xs. out ++ xs) (sym step) ∙ c.loop-line.invariant.0,
-      sym (ap unfinished ends.whole ∙ unfinished-end line more ends.line_end ends.is_end) ∙ c.loop-line.invariant.1,
+      sym (ap open_line ends.whole ∙ unfinished-end line more ends.line_end ends.is_end) ∙ c.loop-line.invariant.1,
       stays_with _ out (piece_of line) _ c.loop-line.invariant.2 c.in_ok-push_line.ensures.ok,
     )
 

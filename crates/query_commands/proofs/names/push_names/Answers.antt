@@ -2,15 +2,16 @@ use Rattle.std.proofs.Common.{◌≡◌, ℕ, Bool, List, ◌+◌, ◌<◌, ◌�
 use Rattle.std.proofs.Common.{arith, drop, length-append, map}
 use Rattle.std.proofs.lemmas.List.{nil_from_length}
 use Rattle.numerics.specs.declared.numeric.Numeric.TheVariants.{NamReply}
-use Rattle.numerics.specs.Cut.{filled}
+use Rattle.numerics.specs.Cut.{lines_with}
 use Rattle.channel_state.specs.declared.modes.Modes.{Modes}
-use Rattle.drafts.specs.Seen.{Seen}
-use Rattle.drafts.proofs.Turns.{dropped}
+use Rattle.transactions.specs.Seen.{Seen}
+use Rattle.transactions.proofs.Turns.{dropped}
 use Rattle.query_commands.specs.Names.{member_name}
 use Rattle.query_commands.specs.Telling.{Telling, telling_more}
 use Rattle.query_commands.proofs.NameLines.{first_told, nothing_told, told_full, told_more}
 use Rattle.query_commands.proofs.names.push_names.Goals as goal
-use Rattle.query_commands.proofs.names.push_names.Goals.{then-takes+in_ok-line-2, else-takes+in_ok-next+in_ok-push_names}
+use Rattle.query_commands.proofs.names.push_names.Goals.{then-takes+in_ok-line-2}
+use Rattle.query_commands.proofs.names.push_names.Goals.{else-takes+in_ok-next+in_ok-push_names}
 
 pub returns-in_default : goal.returns-in_default
 returns-in_default c =
@@ -56,9 +57,9 @@ loop-member-preserved c =
       | then-takes+in_ok-line-2 w ↦
           let longer : c.if-takes.line ≡ line ++ name ∷ [] = w.line-is ∙ w.in_ok-line-2.ensures in
           record {
-            told = ap (λ (t : Telling). telling_more t (map told (filled room most c.if-takes.line names)))
+            told = ap (λ (t : Telling). telling_more t (map told (lines_with room most c.if-takes.line names)))
                 w.telling-is
-                ∙ ap (λ (ls : List (List ℕ)). telling_more before (map told (filled room most ls names))) longer
+                ∙ ap (λ (ls : List (List ℕ)). telling_more before (map told (lines_with room most ls names))) longer
                 ∙ told_more before told room most line name names (map f (drop i rest)) next short
                 (sym c.takes.ensures ∙ w.if-takes.true) ∙ so_far;
             short = omega (arith, ap length longer, length-append line (name ∷ []), c.loop-member.invariant.short);
@@ -73,9 +74,9 @@ loop-member-preserved c =
           ∙ ap (λ (j : Seen). telling_more before (NamReply k.state.modes.secret j.name w.replace.result ∷ []))
           c.listed.view_is ∙ ap (λ (ls : List (List ℕ)). telling_more before (told ls ∷ [])) w.replace.ensures.value in
           record {
-            told = ap (λ (t : Telling). telling_more t (map told (filled room most c.if-takes.line names))) more
+            told = ap (λ (t : Telling). telling_more t (map told (lines_with room most c.if-takes.line names))) more
                 ∙ ap (λ (ls : List (List ℕ)). telling_more (telling_more before (told line ∷ []))
-                (map told (filled room most ls names))) new
+                (map told (lines_with room most ls names))) new
                 ∙ told_full before told room most line name names (map f (drop i rest)) next short
                 (sym c.takes.ensures ∙ w.if-takes.false) ∙ so_far;
             short = omega (arith, ap length new);

@@ -1,6 +1,6 @@
 use Rattle.std.proofs.Common.{ℕ, ◌+◌, Bool, List, [], ◌∷◌, ◌++◌, filter, not, drop, ap, ◌∙◌, append_assoc}
 use Rattle.roster.specs.LookBack.{invisible}
-use Rattle.drafts.proofs.Turns.{filter_more}
+use Rattle.transactions.proofs.Turns.{filter_more}
 use Rattle.query_commands.proofs.visible.shown_members.Goals as goal
 
 pub loop-member-preserved : goal.loop-member-preserved

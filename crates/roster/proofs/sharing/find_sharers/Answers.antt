@@ -3,7 +3,7 @@ use Rattle.std.proofs.lemmas.List.Filters.{dedup_is}
 use Rattle.std.specs.Result.{IfOk}
 use Rattle.std.specs.List.{flat_map}
 use Rattle.roster.specs.Lists.{row_of}
-use Rattle.roster.specs.Tables.{members_in, mated}
+use Rattle.roster.specs.Tables.{members_in, mates_in}
 use Rattle.roster.proofs.Rising.{sorted_once}
 use Rattle.roster.proofs.Mates.{mated_are}
 use Rattle.roster.proofs.sharing.find_sharers.Goals as goal
@@ -19,5 +19,5 @@ returns c =
     let has = sorted_once (members_in ks) cs xs ys zs all c.sort_unstable.ensures.permutation
     c.sort_unstable.ensures.sorted once in
     let told = mated_are ks cs s n zs has.0 has.1 in
-    let seen = ap (λ (ts : List ℕ). mated s n ts) c.deref.ensures.value ∙ told in
+    let seen = ap (λ (ts : List ℕ). mates_in s n ts) c.deref.ensures.value ∙ told in
     subst (λ (ts : List ℕ). IfOk c.mates_of.result (λ v. v ≡ ts)) seen c.mates_of.ensures

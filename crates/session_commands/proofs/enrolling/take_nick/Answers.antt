@@ -32,7 +32,7 @@ free fs s n e t at = another_is s t (sym (ap (is_another s) at) ∙ e)
 pub rename-requires-clause-free : goal.rename-requires-clause-free
 rename-requires-clause-free c =
     let s = c.args.session in let b = c.before-2.result.now.facts in
-    free c.args.draft.now.facts s c.args.nick.now (
+    free c.args.tx.now.facts s c.args.nick.now (
     ap (λ (fs : List Deed). is_held fs s c.args.nick.now) (c.requires.first ∙ sym c.before-2.ensures.facts)
     ∙ ap (λ (n : List ℕ). is_held b s n) (sym c.as_slice.ensures)
     ∙ sym c.is_held-is_held.ensures

@@ -1,7 +1,7 @@
 use Rattle.std.proofs.Common.{◌≡◌, sym, subst}
 use Rattle.chronicle.specs.declared.record.Kind.TheVariants.{Said}
-use Rattle.book.specs.Turn.{Turn}
-use Rattle.ledger.specs.Ledger.{MayBegin, begun}
+use Rattle.book.specs.Turn.{BatonView}
+use Rattle.ledger.specs.Ledger.{MayBegin, after_begin}
 use Rattle.book.specs.Reaping.{turn_of}
 use Rattle.book.specs.Outcomes.{IsLineBegun}
 use Rattle.book.specs.Tied.{IsTied}
@@ -16,7 +16,7 @@ invariant_of-self g c =
     let k = c.begin.new.self in
     let b = c.baton.inside.turn in
     let p = c.args.line.now in
-    by_result c.begin.result (k ≡ begun a.ledger (Said b.session b.next p) c.args.moment) (MayBegin a.ledger b
+    by_result c.begin.result (k ≡ after_begin a.ledger (Said b.session b.next p) c.args.moment) (MayBegin a.ledger b
     c.args.moment) (k ≡ a.ledger) c.begin.ensures.ok c.begin.ensures.may c.begin.ensures.err
     (λ is may. (
       i.0,
@@ -31,7 +31,7 @@ returns-clause-begun g c =
     let b = c.baton.inside.turn in
     let p = c.args.line.now in
     let begun = c.begin.ensures in
-    subst (λ (t : Turn). IsLineBegun c.args.self.now k (turn_of t) p c.args.moment c.begin.result) c.baton.view_is
+    subst (λ (t : BatonView). IsLineBegun c.args.self.now k (turn_of t) p c.args.moment c.begin.result) c.baton.view_is
     (subst (λ m. IsLineBegun m k b p c.args.moment c.begin.result) c.self.view_is (record {
       ok = begun.ok;
       out = begun.out;

@@ -1,6 +1,6 @@
 use Rattle.std.proofs.Common.{◌≡◌, Some, None, sym, subst}
 use Rattle.chronicle.specs.declared.record.Kind.TheVariants.{Gone}
-use Rattle.ledger.specs.Ledger.{Out, IsOut, MaySweep, begun, to_sweep}
+use Rattle.ledger.specs.Ledger.{Out, IsOut, MaySweep, after_begin, to_sweep}
 use Rattle.book.specs.Tied.{IsTied}
 use Rattle.book.proofs.Outcomes.{by_answer}
 use Rattle.book.proofs.Ties.{gone_ties}
@@ -13,7 +13,7 @@ invariant_of-self g c =
     let k = c.begin_sweep.new.self in
     let name = g.O.Outbox.name in
     by_answer c.begin_sweep.result (λ (p : Out). (to_sweep a.ledger.history ≡ Some p.session)
-    × (k ≡ begun a.ledger (Gone p.session) c.args.moment) × IsOut k p × (p.next ≡ None))
+    × (k ≡ after_begin a.ledger (Gone p.session) c.args.moment) × IsOut k p × (p.next ≡ None))
     ((to_sweep a.ledger.history ≡ None) × (k ≡ a.ledger)) (MaySweep a.ledger c.args.moment) (k ≡ a.ledger)
     c.begin_sweep.ensures.some c.begin_sweep.ensures.none c.begin_sweep.ensures.may c.begin_sweep.ensures.err
     (λ p some may. (

@@ -5,8 +5,8 @@ use Rattle.chronicle.specs.History.{sessions, accepted, shut}
 use Rattle.register.specs.declared.claims.Row.{Row}
 use Rattle.register.specs.Rows.{with_piece, pieces_at}
 use Rattle.register.specs.Shown.{with_done, longer_mark}
-use Rattle.book.specs.Turn.{Turn}
-use Rattle.ledger.specs.Ledger.{IsOut, finished, newest_line}
+use Rattle.book.specs.Turn.{BatonView}
+use Rattle.ledger.specs.Ledger.{IsOut, after_end, newest_line}
 use Rattle.book.specs.Reaping.{newest_said}
 use Rattle.book.specs.Tied.{begun_of, IsTied}
 use Rattle.book.proofs.Ties.{newest_adds, newest_from_1, line_ties, done_accepts}
@@ -29,7 +29,7 @@ turned : (g : given.Over) (c : goal.After-drop-baton-inside g) → Turned g c
 turned g c =
     let h = c.self.inside.ledger.history in
     let said = c.line_of-line.result.now in
-    let whose = c.requires.line.0 ∙ sym (ap (λ (t : Turn). t.session) c.baton.view_is) in
+    let whose = c.requires.line.0 ∙ sym (ap (λ (t : BatonView). t.session) c.baton.view_is) in
     let newest : newest_line h ≡ Some (c.baton.inside.turn.session, said) = c.line_of-line.ensures
     ∙ ap (λ (s : ℕ). Some (s, said)) whose in
     record {
@@ -40,7 +40,7 @@ turned g c =
       mark = c.advance.ensures.mark;
     }
 
-tied : (g : given.Over) (c : goal.After-drop-baton-inside g) → IsTied g.O.Outbox.name (finished c.self.inside.ledger)
+tied : (g : given.Over) (c : goal.After-drop-baton-inside g) → IsTied g.O.Outbox.name (after_end c.self.inside.ledger)
     (with_piece c.self.inside.register.rows c.baton.inside.turn.session (turned g c).said)
 tied g c = line_ties g.O.Outbox.name c.self.inside.ledger c.baton.inside.turn.session
     (turned g c).said c.self.inside.register.rows (turned g c).line c.self.invariant.1
@@ -53,14 +53,14 @@ pieces g c =
     let turn = c.baton.inside.turn in
     let mark = c.baton.inside.mark in
     let whose : c.args.plan.session ≡ turn.session = c.requires.line.0
-    ∙ sym (ap (λ (t : Turn). t.session) c.baton.view_is) in
+    ∙ sym (ap (λ (t : BatonView). t.session) c.baton.view_is) in
     let o = out g c in
     let next = sym o.next ∙ c.requires.line.1 in
     let from = subst (λ (s : ℕ). 0 < s) (sym o.session ∙ whose)
     (newest_from_1 a.ledger.settings a.ledger.history (c.args.baton.now.next + 1) c.sound.ensures.legal next) in
     let to = subst (λ (s : ℕ). s ≤ sessions a.ledger.history) whose o.opened in
     let knew = ap (pieces_at a.register.rows) (sym c.baton.invariant.0) ∙ c.advance.ensures.knew in
-    ap (λ m. m.pieces) (turned g c).mark ∙ done_accepts g.O.Outbox.name (finished a.ledger) turn.session
+    ap (λ m. m.pieces) (turned g c).mark ∙ done_accepts g.O.Outbox.name (after_end a.ledger) turn.session
     (turned g c).said mark.pieces a.register.rows refl (tied g c) from to knew
 
 pub invariant_of-self : goal.invariant_of-self
@@ -73,7 +73,7 @@ invariant_of-self g c =
     ∙ ap (λ (s : ℕ). with_piece a.register.rows s t.said) c.baton.invariant.0 in (
       ap (λ r. r.table) t.register ∙ i.0,
       subst (λ m. IsTied g.O.Outbox.name m c.advance.new.self.rows) (sym is)
-          (subst (λ (xs : List (Row g.row.O-Name.Denot)). IsTied g.O.Outbox.name (finished a.ledger) xs) (sym rows)
+          (subst (λ (xs : List (Row g.row.O-Name.Denot)). IsTied g.O.Outbox.name (after_end a.ledger) xs) (sym rows)
           (tied g c)),
     )
 
@@ -113,10 +113,10 @@ returns-clause-grown g c =
     ap (λ m. m.pieces) t.mark
     ∙ ap (λ (ps : List Piece). mark.pieces ++ ps)
     (sym (newest_adds h c.baton.inside.turn.session t.said t.newest))
-    ∙ ap (λ (b : Turn). b.pieces ++ newest_said h b.session) c.baton.view_is
+    ∙ ap (λ (b : BatonView). b.pieces ++ newest_said h b.session) c.baton.view_is
     ∙ ap (λ m. c.args.baton.now.pieces ++ newest_said m.history c.args.baton.now.session) c.self.view_is
 
 pub returns-clause-accepted : goal.returns-clause-accepted
 returns-clause-accepted g c = pieces g c ∙ ap (accepted c.self.inside.ledger.history)
-    (ap (λ (t : Turn). t.session) c.baton.view_is) ∙ ap (λ b. accepted b.history c.args.baton.now.session)
+    (ap (λ (t : BatonView). t.session) c.baton.view_is) ∙ ap (λ b. accepted b.history c.args.baton.now.session)
     (sym c.finish-done.ensures.book)

@@ -17,7 +17,7 @@ invariant_of-self g c =
     (MayHang a.ledger s c.args.moment) (k ≡ a.ledger) c.hang.ensures.ok c.hang.ensures.may c.hang.ensures.err
     (λ done may. (
       i.0,
-      hung_done_ties g.O.Outbox.name g.O.Outbox.accepts g.O.Outbox.refuses g.met.O.Lasting.stays a.ledger k s w
+      hung_done_ties g.O.Outbox.name g.O.Outbox.accepts g.O.Outbox.refuses g.met.O.StableName.stays a.ledger k s w
           c.args.moment a.register.rows may.idle done i.1,
     ))
     (λ is. (i.0, subst (λ m. IsTied g.O.Outbox.name m a.register.rows) (sym is) i.1))

@@ -2,7 +2,7 @@ use Rattle.std.proofs.Common.{◌≡◌, ◌+◌, ◌<◌, ℕ, List, [], ◌∷
 use Rattle.chronicle.specs.History.{sessions, accepted}
 use Rattle.register.specs.declared.claims.Row.{Row}
 use Rattle.register.specs.Rows.{new_row}
-use Rattle.ledger.specs.Ledger.{Shown, opened}
+use Rattle.ledger.specs.Ledger.{Shown, after_open}
 use Rattle.book.specs.Tied.{IsTied}
 use Rattle.book.proofs.Unopened.{silent}
 use Rattle.book.proofs.Ties.{opened_ties}
@@ -21,7 +21,7 @@ invariant_of-result g c =
     let whose : turn.session ≡ n = ap (λ b. b.session) session.1 in
     let front : accepted c.of-front.result.value.history turn.session ≡ [] =
     ap (λ (b : Shown g.row.O.Denot). accepted b.history turn.session) (c.of-front.ensures ∙ ok)
-    ∙ ap (accepted (opened m c.args.host c.args.moment c.args.outbox).history) whose
+    ∙ ap (accepted (after_open m c.args.host c.args.moment c.args.outbox).history) whose
     ∙ append-nil (accepted m.history n) ∙ none in (
       ap (λ b. b.session) mark ∙ session.0 ∙ sym whose,
       record {
@@ -51,5 +51,5 @@ invariant_of-self-2 g c =
     c.sound.ensures.sessions none i.1 in (
       ap (λ r. r.table) c.admit-mark.ensures.register ∙ i.0,
       subst (λ b. IsTied name b c.admit-mark.new.self.rows) (sym ok) (subst (λ (xs : List (Row g.row.O-Name.Denot)).
-          IsTied name (opened m c.args.host c.args.moment c.args.outbox) xs) (sym rows) tied),
+          IsTied name (after_open m c.args.host c.args.moment c.args.outbox) xs) (sym rows) tied),
     )

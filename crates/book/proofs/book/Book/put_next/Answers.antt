@@ -8,6 +8,6 @@ invariant_of-self g c =
     let k = c.put_next.new.self in
     let put = c.put_next.ensures.put in (
       i.0,
-      put_ties g.O.Outbox.accepts g.O.Outbox.refuses g.O.Outbox.name g.met.O.Lasting.stays a.ledger k a.ledger.plan
+      put_ties g.O.Outbox.accepts g.O.Outbox.refuses g.O.Outbox.name g.met.O.StableName.stays a.ledger k a.ledger.plan
           c.put_next.result a.register.rows put i.1,
     )

@@ -1,6 +1,6 @@
 use Rattle.std.proofs.Common.{◌≡◌, length}
 use Rattle.ledger.specs.Ledger.{Shown, IsPutAll, IsOut}
-use Rattle.book.specs.Telling.{TellsOf}
+use Rattle.book.specs.Flushes.{ListsChanged}
 use Rattle.book.proofs.book.Book.put_rest.Given as goal
 
 -- what puts the rest puts the whole, the plan is the one that is out, and whoever got something is told
@@ -12,7 +12,7 @@ invariant-loop g l = record {
   number : l.plan.number ≡ l.fn.plan.number;
   session : l.plan.session ≡ l.fn.plan.session;
   next : l.plan.next ≡ l.fn.plan.next;
-  told : TellsOf l.fn.told l.told l.fn.self.outboxes l.self.outboxes;
+  flushes : ListsChanged l.fn.flushes l.flushes l.fn.self.outboxes l.self.outboxes;
 }
 
 abbrev pub decreases-loop : goal.decreases-loop

@@ -8,10 +8,10 @@ use Rattle.interleave.specs.State.{Seen, State, job_of}
 use Rattle.std.specs.Prelude.{IsSome, IfErr, Err}
 use Rattle.interleave.specs.declared.event.Note.TheVariants as note
 use Rattle.interleave.specs.declared.event.StepRefusal.{StepRefusal}
-use Rattle.ledger.specs.Ledger.{Turn, MayBegin}
+use Rattle.book.specs.Ledger.{Turn, MayBegin}
 use Rattle.interleave.specs.Inbox.{IsBegun}
 use Rattle.interleave.specs.Refusals.{IsLineRefused, IsBeginRefused, IsRefused}
-use Rattle.interleave.specs.Steps.{begun, IsBegin, IsStep}
+use Rattle.interleave.specs.Steps.{step_begin, IsBegin, IsStep}
 use Rattle.interleave.proofs.Kept.{job_is, turn_in_hand, pending_in_hand, begun_kept, seen_is}
 use Rattle.interleave.proofs.Does.{begins}
 use Rattle.interleave.proofs.play.Play.begin.Goals as goal
@@ -106,7 +106,7 @@ returns g c =
     let turn : b.1.turn ≡ turn_of m s = (let e : Some b.1.turn ≡ Some (turn_of m s) = sym b.1.baton ∙ held in cc) in
     let number : c.number-number.result ≡ length m.history + 1 = grind (arith, common_steps) in
     let state : state_of k a.sendq c.begin.new.inboxes.items jobs (Some (record { worker = w; plan = p }))
-    ≡ begun st w s b.1.piece b.1.rest c.args.moment =
+    ≡ step_begin st w s b.1.piece b.1.rest c.args.moment =
     ap (λ (bs : List Held). state_of k a.sendq bs jobs (Some (record { worker = w; plan = p }))) b.2 ∙ all.0 in (
       c.requires.free,
       subst (λ (y : State). IsBegin y w (job_of y w) c.args.moment (note.Record c.number-number.result) (state_of k

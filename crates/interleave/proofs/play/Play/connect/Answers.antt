@@ -6,9 +6,9 @@ use Rattle.interleave.specs.Inbox.{Held}
 use Rattle.interleave.specs.Kept.{state_of, IsKept}
 use Rattle.interleave.specs.State.{State}
 use Rattle.chronicle.specs.History.{sessions}
-use Rattle.outbox.specs.Ring.{empty_ring}
+use Rattle.book.specs.Ring.{empty_ring}
 use Rattle.casemapping.specs.Names.{host_shape}
-use Rattle.ledger.specs.Ledger as book
+use Rattle.book.specs.Ledger as book
 use Rattle.interleave.specs.State.{nothing_fed}
 use Rattle.interleave.proofs.Kept.{connected_kept}
 use Rattle.interleave.proofs.Does.{connects}
@@ -26,7 +26,7 @@ invariant_of-self-in-Ok g c =
       seen = nothing_fed;
       turn = Some (record { session = sessions m.history + 1; next = 0 });
     } = grind (arith, common_steps) in
-    let is : c.open-opened.new.self ≡ book.opened m c.in_ok-host.host c.args.moment (empty_ring a.sendq) = grind
+    let is : c.open-opened.new.self ≡ book.after_open m c.in_ok-host.host c.args.moment (empty_ring a.sendq) = grind
     (arith, common_steps) in
     let shape : host_shape c.in_ok-host.host ≡ true = grind (arith, common_steps) in
     subst (λ (bs : List Held). IsKept c.open-opened.new.self a.sendq bs jobs a.holder) (sym all)

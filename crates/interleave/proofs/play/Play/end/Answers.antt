@@ -9,9 +9,9 @@ use Rattle.interleave.specs.State.{State, job_of}
 use Rattle.interleave.specs.declared.play.Holder.{Holder}
 use Rattle.std.specs.Prelude.{IsSome, IfSome}
 use Rattle.chronicle.specs.History.{shut}
-use Rattle.ledger.specs.Ledger.{Turn, newest_actor}
+use Rattle.book.specs.Ledger.{Turn, newest_actor}
 use Rattle.interleave.specs.declared.event.Note.TheVariants as note
-use Rattle.interleave.specs.Steps.{ended, IsEnd}
+use Rattle.interleave.specs.Steps.{step_end, IsEnd}
 use Rattle.interleave.proofs.Ended.{line_is_shut}
 use Rattle.interleave.proofs.Does.{MayEnd, may_end, ends_sweep, plan_goes, ends_line}
 use Rattle.interleave.proofs.play.Play.end.Goals as goal
@@ -116,12 +116,12 @@ returns g c =
     let is_shut : d.shut ≡ shut m.history l.turn.session = rw l.held at c.end-done.ensures.shut in
     let actor : l.turn.session ≡ newest_actor m.history = sym l.plan.0 ∙ may.kept.holding.0.session in
     let state : state_of k a.sendq c.end-done.new.inboxes.items c.set_job.new.jobs.items c.take.new.self
-    ≡ ended st w (job_of st w) =
+    ≡ step_end st w (job_of st w) =
     ap (λ (o : Option Holder). state_of k a.sendq c.end-done.new.inboxes.items c.set_job.new.jobs.items o) gone
     ∙ ap (λ (bs : List Held). state_of k a.sendq bs c.set_job.new.jobs.items None) new
     ∙ ap (λ (js : List (Option ℕ)). state_of k a.sendq
     (with_held boxes s (ended_at (held_at boxes s) l.turn)) js None) c.set_job.ensures
-    ∙ all.0 ∙ ap (λ (o : Option ℕ). ended st w o) (sym has) in (
+    ∙ all.0 ∙ ap (λ (o : Option ℕ). step_end st w o) (sym has) in (
       c.requires.free,
       subst (λ (y : State). IsEnd y w (note.Done d)
           (state_of k a.sendq c.end-done.new.inboxes.items c.set_job.new.jobs.items c.take.new.self)) c.self.view_is (

@@ -5,7 +5,7 @@ use Rattle.interleave.specs.Refusals.{own_refusal}
 use Rattle.interleave.specs.Inbox.{Held, held_at, with_held, moved_to}
 use Rattle.interleave.specs.Kept.{state_of, IsKept}
 use Rattle.interleave.specs.State.{State}
-use Rattle.interleave.specs.Steps.{picked}
+use Rattle.interleave.specs.Steps.{step_pick}
 use Rattle.interleave.proofs.Does.{may_pick}
 use Rattle.interleave.proofs.play.Play.pick.Goals as goal
 
@@ -35,6 +35,6 @@ returns g c =
         ap (λ (bs : List Held). state_of m a.sendq bs c.set_job.new.jobs.items a.holder) c.move_to.ensures
             ∙ ap (λ (js : List (Option ℕ)). state_of m a.sendq
             (with_held boxes s (moved_to (held_at boxes s) (Hand w))) js a.holder) c.set_job.ensures
-            ∙ all.0 ∙ ap (λ (x : State). picked x w s) c.self.view_is,
+            ∙ all.0 ∙ ap (λ (x : State). step_pick x w s) c.self.view_is,
       ),
     )

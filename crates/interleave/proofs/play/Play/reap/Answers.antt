@@ -10,7 +10,7 @@ use Rattle.std.proofs.lemmas.List.{length-map}
 use Rattle.deliveries.specs.declared.delivery.Delivery.{Delivery}
 use Rattle.deliveries.specs.declared.item.Item.{Item}
 use Rattle.deliveries.specs.Items.{deliveries}
-use Rattle.ledger.specs.Ledger.{MayReap, IsReapRefusal, outbox_at, reaped}
+use Rattle.book.specs.Ledger.{MayReap, IsReapRefusal, outbox_at, after_reap}
 use Rattle.interleave.specs.declared.event.Note.TheVariants as note
 use Rattle.interleave.specs.State.{queue_of}
 use Rattle.interleave.specs.declared.event.StepRefusal.{StepRefusal}
@@ -39,12 +39,12 @@ invariant_of-self g c =
     queue_here m a.sendq boxes jobs a.holder s in_.here in
     let ok : OnOk c.reap-reaped.result (c.reap-reaped.new.inboxes.items ≡ with_held boxes s (reaped_at
     (held_at boxes s) (deliveries (outbox_at m.outboxes s).queue))) = rw held at c.reap-reaped.ensures.ok in
-    let given : OnOk c.reap-reaped.result (k ≡ reaped m s) = rw held at c.reap-reaped.ensures.book in
+    let given : OnOk c.reap-reaped.result (k ≡ after_reap m s) = rw held at c.reap-reaped.ensures.book in
     elim c.match-reaped.branch [
       | in-Ok x ↦
           let new : c.reap-reaped.new.inboxes.items ≡ with_held boxes s (reaped_at (held_at boxes s)
           (deliveries (outbox_at m.outboxes s).queue)) = grind (arith, common_steps) in
-          let gone : k ≡ reaped m s = grind (arith, common_steps) in
+          let gone : k ≡ after_reap m s = grind (arith, common_steps) in
           subst (λ (bs : List Held). IsKept k a.sendq bs jobs a.holder) (sym (new ∙ ap
           (λ (xs : List Delivery). with_held boxes s (reaped_at (held_at boxes s) xs)) (sym waits)))
           (may.gives k gone c.sound.ensures).1
@@ -70,7 +70,7 @@ returns g c =
     queue_here m a.sendq boxes jobs a.holder s in_.here in
     let ok : OnOk c.reap-reaped.result (c.reap-reaped.new.inboxes.items ≡ with_held boxes s (reaped_at
     (held_at boxes s) (deliveries (outbox_at m.outboxes s).queue))) = rw held at c.reap-reaped.ensures.ok in
-    let given : OnOk c.reap-reaped.result (k ≡ reaped m s) = rw held at c.reap-reaped.ensures.book in
+    let given : OnOk c.reap-reaped.result (k ≡ after_reap m s) = rw held at c.reap-reaped.ensures.book in
     let now = c.args.self.now in
     let count : IfOk c.reap-reaped.result (λ n. n ≡ length (outbox_at m.outboxes s).queue) =
     rw held at c.reap-reaped.ensures.left in
@@ -81,11 +81,11 @@ returns g c =
           let n = x.in-Ok.count in
           let new : c.reap-reaped.new.inboxes.items ≡ with_held boxes s (reaped_at (held_at boxes s)
           (deliveries (outbox_at m.outboxes s).queue)) = grind (arith, common_steps) in
-          let gone : k ≡ reaped m s = grind (arith, common_steps) in
+          let gone : k ≡ after_reap m s = grind (arith, common_steps) in
           let number : n ≡ length (outbox_at m.outboxes s).queue = grind (arith, common_steps) in
           let can : MayReap m s = grind (arith, common_steps) in
           let all = may.gives k gone c.sound.ensures in
-          let state : state_of k a.sendq c.reap-reaped.new.inboxes.items jobs a.holder ≡ steps.reaped st s =
+          let state : state_of k a.sendq c.reap-reaped.new.inboxes.items jobs a.holder ≡ steps.step_reap st s =
           ap (λ (bs : List Held). state_of k a.sendq bs jobs a.holder) (new ∙ ap
           (λ (xs : List Delivery). with_held boxes s (reaped_at (held_at boxes s) xs)) (sym waits)) ∙ all.0 in
           subst (λ r. IsStep now (event.Reap s) r

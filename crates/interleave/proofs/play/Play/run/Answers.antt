@@ -1,7 +1,7 @@
 use Rattle.std.proofs.Common.{arith, ◌≡◌, [], ◌++◌, drop, refl, sym, subst, append-nil, append_assoc, ◌∙◌}
 use Rattle.std.proofs.lemmas.Grind.{common_steps}
 use Rattle.interleave.specs.State.{in_hand, unread, taken_of, queue_of, planned_for}
-use Rattle.interleave.specs.Runs.{IsRun, took}
+use Rattle.interleave.specs.Runs.{IsRun, taken_in}
 use Rattle.chronicle.specs.History.{accepted}
 use Rattle.interleave.proofs.Order.{prefix_rises}
 use Rattle.interleave.proofs.Runs.{run_taken, run_accepted}
@@ -28,7 +28,7 @@ pub returns-clause-taken_is_prefix : goal.returns-clause-taken_is_prefix
 returns-clause-taken_is_prefix g c t from to =
     let k = c.loop-event.self in (
       queue_of k t ++ planned_for k t,
-      sym (append_assoc (taken_of c.args.self.now t ++ took t c.args.events.now
+      sym (append_assoc (taken_of c.args.self.now t ++ taken_in t c.args.events.now
           c.loop-event.notes.items) (queue_of k t) (planned_for k t)) ∙ returns-clause-taken_is_owed g c t from to,
     )
 
@@ -44,7 +44,7 @@ returns-clause-accepted_is_prefix g c t from to =
 pub returns-clause-in_order : goal.returns-clause-in_order
 returns-clause-in_order g c t from to =
     prefix_rises c.loop-event.self.book.settings c.loop-event.self.book.history t (taken_of c.args.self.now t
-    ++ took t c.args.events.now c.loop-event.notes.items) (returns-clause-taken_is_prefix g c t from to)
+    ++ taken_in t c.args.events.now c.loop-event.notes.items) (returns-clause-taken_is_prefix g c t from to)
 
 pub returns-in_err-reserve-clause-error_at_most : goal.returns-in_err-reserve-clause-error_at_most
 returns-in_err-reserve-clause-error_at_most g c = c.error_at_most_after_the_close.ensures _ _

@@ -4,7 +4,7 @@ use Rattle.interleave.specs.Refusals.{own_refusal}
 use Rattle.interleave.specs.Kept.{state_of}
 use Rattle.interleave.specs.State.{State}
 use Rattle.chronicle.specs.declared.record.Kind.TheVariants as kind
-use Rattle.ledger.specs.Ledger as book
+use Rattle.book.specs.Ledger as book
 use Rattle.interleave.proofs.Kept.{silent_kept}
 use Rattle.interleave.proofs.Does.{sweeps}
 use Rattle.interleave.proofs.play.Play.sweep.Goals as goal
@@ -18,7 +18,7 @@ invariant_of-self g c =
     (λ (x : State). own_refusal x (event.Sweep w c.args.moment) ≡ None) (sym c.self.view_is) c.requires.free in
     let may = sweeps m a.sendq boxes jobs a.holder w c.args.moment free in
     let some : (book.to_sweep m.history ≡ Some p.session) × (c.begin_sweep-begun.new.self
-    ≡ book.begun m (kind.Gone p.session) c.args.moment) × book.IsOut c.begin_sweep-begun.new.self p
+    ≡ book.after_begin m (kind.Gone p.session) c.args.moment) × book.IsOut c.begin_sweep-begun.new.self p
     × (p.next ≡ None) = rw c.in-Ok-Some.field-0-is at c.in-Ok-Some.ensures.begun.some in
     silent_kept m c.begin_sweep-begun.new.self a.sendq boxes jobs a.holder w (kind.Gone p.session) c.args.moment p
     (λ t. refl) tt c.self.invariant may.0.worker may.0.there may.0.lock may.1 some.1 some.2 some.3 c.sound.ensures

@@ -4,11 +4,11 @@ use Rattle.interleave.specs.Refusals.{own_refusal}
 use Rattle.interleave.specs.Inbox.{Held, held_at, with_held, with_seen}
 use Rattle.deliveries.specs.declared.item.Item.{Item}
 use Rattle.deliveries.specs.Items.{deliveries}
-use Rattle.ledger.specs.Ledger.{outbox_at}
+use Rattle.book.specs.Ledger.{outbox_at}
 use Rattle.interleave.specs.Kept.{state_of, IsKept}
 use Rattle.interleave.specs.State.{State}
 use Rattle.deliveries.specs.declared.delivery.Delivery.{Delivery}
-use Rattle.interleave.specs.Steps.{IsTake, took, with_taken}
+use Rattle.interleave.specs.Steps.{IsTake, step_take, with_taken}
 use Rattle.interleave.specs.State.{queue_of}
 use Rattle.interleave.specs.declared.event.Note.TheVariants as note
 use Rattle.interleave.proofs.Kept.{took_kept, queue_here}
@@ -55,9 +55,9 @@ returns-in-Ok g c =
     let all = took_kept m c.take-taken.new.self a.sendq boxes jobs a.holder s x c.self.invariant in_.above in_.below
     in_.here front c.in-Ok.ensures.taken c.sound.ensures in
     let new : state_of c.take-taken.new.self a.sendq c.tell_taken.new.inboxes.items jobs a.holder
-    ≡ took c.args.self.now s x =
+    ≡ step_take c.args.self.now s x =
     ap (λ (bs : List Held). state_of c.take-taken.new.self a.sendq bs jobs a.holder) (c.tell_taken.ensures
-    ∙ ap (told boxes s) c.delivery.ensures) ∙ all.0 ∙ ap (λ (y : State). took y s x) c.self.view_is in
+    ∙ ap (told boxes s) c.delivery.ensures) ∙ all.0 ∙ ap (λ (y : State). step_take y s x) c.self.view_is in
     let first : slice_get (queue_of c.args.self.now s) 0 ≡ Some x = subst
     (λ (y : State). slice_get (queue_of y s) 0 ≡ Some x) c.self.view_is front in (
       c.requires.free,

@@ -4,7 +4,7 @@ use Rattle.interleave.specs.Refusals.{own_refusal}
 use Rattle.interleave.specs.Kept.{state_of}
 use Rattle.interleave.specs.State.{State}
 use Rattle.chronicle.specs.declared.record.Kind.TheVariants as kind
-use Rattle.ledger.specs.Ledger as book
+use Rattle.book.specs.Ledger as book
 use Rattle.interleave.proofs.Kept.{silent_kept}
 use Rattle.interleave.proofs.Does.{ticks}
 use Rattle.interleave.proofs.play.Play.tick.Goals as goal
@@ -17,7 +17,7 @@ invariant_of-self g c =
     let free : own_refusal (state_of m a.sendq boxes jobs a.holder) (event.Tick w c.args.moment) ≡ None = subst
     (λ (x : State). own_refusal x (event.Tick w c.args.moment) ≡ None) (sym c.self.view_is) c.requires.free in
     let may = ticks m a.sendq boxes jobs a.holder w c.args.moment free in
-    let some : (c.begin_tick-begun.new.self ≡ book.begun m kind.Ticked c.args.moment)
+    let some : (c.begin_tick-begun.new.self ≡ book.after_begin m kind.Ticked c.args.moment)
     × book.IsOut c.begin_tick-begun.new.self p × (p.session ≡ 0)
     × (p.next ≡ None) = rw c.in-Ok-Some.field-0-is at c.in-Ok-Some.ensures.begun.some in
     silent_kept m c.begin_tick-begun.new.self a.sendq boxes jobs a.holder w kind.Ticked c.args.moment p

@@ -1,5 +1,5 @@
 use Rattle.std.proofs.Common.{sym, ◌∙◌}
-use Rattle.chronicle.specs.Quiet.{PING_AFTER}
+use Rattle.chronicle.specs.Idle.{PING_AFTER}
 use Rattle.ledger.specs.LastHeard.{is_due}
 use Rattle.ledger.proofs.Picking.{seen_enough, not_yet_due}
 use Rattle.ledger.proofs.last_heard.LastHeard.due.Goals as goal

@@ -1,5 +1,5 @@
 use Rattle.std.proofs.Common.{◌≡◌, true, [], ap, sym, ◌∙◌}
-use Rattle.chronicle.specs.Quiet.{PING_AFTER}
+use Rattle.chronicle.specs.Idle.{PING_AFTER}
 use Rattle.ledger.specs.LastHeard.{is_before, is_due}
 use Rattle.ledger.specs.Seats.{hears}
 use Rattle.ledger.proofs.Picking.{seen_enough, seen_some, due_passes, not_yet_due}
@@ -18,10 +18,10 @@ returns-then-not-since-clause-yes c =
     let seats = c.args.seats.now in
     let moment = c.args.moment in
     let now = c.args.self.now in let number = c.in-Some.number.now in let since = c.in-Some.since.now in
-    let quiet : is_before since PING_AFTER moment ≡ true = sym c.is_before.ensures ∙ c.if-not-is_before.false in
+    let idle : is_before since PING_AFTER moment ≡ true = sym c.is_before.ensures ∙ c.if-not-is_before.false in
     let open_ : hears seats number ≡ true = ap (hears seats) (sym c.new.ensures) ∙ sym c.is_listening.ensures
     ∙ c.if-is_listening.true in
     let passes : is_due seats moment (number, since)
-    ≡ true = due_passes seats moment (number, since) quiet open_ c.if-not-since.true in
+    ≡ true = due_passes seats moment (number, since) idle open_ c.if-not-since.true in
     λ e. seen_some (is_due seats moment) now c.loop-number.rest c.next_back.new.self []
     (number, since) c.loop-number.invariant c.in-Some.ensures.steps passes

@@ -1,5 +1,5 @@
 use Rattle.std.proofs.Common.{◌≡◌, ℕ, Bool, true, Option, [], ◌∷◌, ◌++◌, cond, ap, sym, ◌∙◌}
-use Rattle.chronicle.specs.Quiet.{LATE_AFTER}
+use Rattle.chronicle.specs.Idle.{LATE_AFTER}
 use Rattle.ledger.specs.LastHeard.{is_before, is_overdue, lower, lowest}
 use Rattle.ledger.specs.Seats.{hears}
 use Rattle.ledger.proofs.Picking.{seen_more, seen_enough, late_passes, not_yet_late, lowest_more}
@@ -20,11 +20,11 @@ loop-number-preserved-then-is_listening c =
     let moment = c.args.moment in
     let now = c.args.self.now in
     let number = c.in-Some.number.now in let since = c.in-Some.since.now in let i = c.loop-number.invariant in
-    let quiet : is_before since LATE_AFTER moment ≡ true = sym c.is_before.ensures ∙ c.if-not-is_before.false in
+    let idle : is_before since LATE_AFTER moment ≡ true = sym c.is_before.ensures ∙ c.if-not-is_before.false in
     let open_ : hears seats number ≡ true = ap (hears seats) (sym c.new-session.ensures)
     ∙ sym c.is_listening.ensures ∙ c.if-is_listening.true in
     let passes : is_overdue seats moment (number, since)
-    ≡ true = late_passes seats moment (number, since) quiet open_ in
+    ≡ true = late_passes seats moment (number, since) idle open_ in
     let more : i.0 ++ number ∷ [] ≡ i.0 ++ cond (is_overdue seats moment (number, since)) (number ∷ []) [] = ap
     (λ (b : Bool). i.0 ++ cond b (number ∷ []) []) (sym passes) in (
       i.0 ++ number ∷ [],

@@ -1,7 +1,7 @@
 use Rattle.std.proofs.Common.{ℕ, take, slice_index_or, is_some, ap, sym, ◌∙◌}
 use Rattle.std.proofs.lemmas.List.Sums.{fold_more}
 use Rattle.ledger.specs.LastHeard.{since_at, with_ping, with_pings}
-use Rattle.ledger.proofs.Hearing.{still_kept}
+use Rattle.ledger.proofs.LastActivity.{still_kept}
 use Rattle.ledger.proofs.last_heard.LastHeard.ping_each.Goals as goal
 
 pub loop-session-preserved : goal.loop-session-preserved

@@ -2,7 +2,7 @@ use Rattle.outbox.specs.Ring.{with_taken}
 use Rattle.ledger.specs.Ledger.{outbox_at}
 use Rattle.std.proofs.Common.{refl, ◌-◌, slice_set, Some}
 use Rattle.ledger.proofs.KeptSteps.{taken_kept}
-use Rattle.ledger.proofs.Hearing.{since_as, since_put}
+use Rattle.ledger.proofs.LastActivity.{since_as, since_put}
 use Rattle.ledger.proofs.Based.{based_as, based_boxes, set_many, put_still}
 use Rattle.ledger.proofs.ledger.Ledger+Ring.take.Goals as goal
 

@@ -7,24 +7,24 @@ use Rattle.chronicle.specs.History.{accepted}
 use Rattle.chronicle.specs.Journal.{most, fresh_record}
 use Rattle.registration.specs.declared.settings.Settings.{Settings}
 use Rattle.roster.specs.declared.deed.Deed.{Deed}
-use Rattle.roster.specs.LookBack.{after, caps, opened}
+use Rattle.roster.specs.LookBack.{after, caps, opened_in}
 use Rattle.roster.specs.Legal.{IsOpened}
 use Rattle.labels_batches.specs.Labels.{label_of}
-use Rattle.deeds.specs.Deeds.{spelled}
-use Rattle.drafts.specs.Effects.{deeds_of}
+use Rattle.deeds.specs.Deeds.{octets_for}
+use Rattle.transactions.specs.Effects.{deeds_of}
 use Rattle.commands.specs.Asked.{asked_of}
 use Rattle.deeds.specs.Rows.{of_asked}
 use Rattle.ledger.specs.declared.seat.Seat.{Seat}
 use Rattle.ledger.specs.Seats.{IsSeated, IsThere, seat_at, planned_from}
 use Rattle.ledger.specs.Kept.{IsKept}
-use Rattle.ledger.specs.Ledger.{Turn, MayBegin, plan_of, begun, held}
+use Rattle.ledger.specs.Ledger.{Turn, MayBegin, plan_of, after_begin, kept_total}
 use Rattle.ledger.proofs.KeptSteps.{shown}
 use Rattle.ledger.proofs.Opened.{accepted_le}
 use Rattle.ledger.proofs.Begins.{begun_is}
 use Rattle.ledger.proofs.Appends.{said_seats, known_opened, few_lines, said_plan, said_kept}
 use Rattle.std.specs.Map.{remove_entry}
 use Rattle.ledger.specs.declared.last_heard.Since.{Since}
-use Rattle.ledger.proofs.Hearing.{since_as, since_said}
+use Rattle.ledger.proofs.LastActivity.{since_as, since_said}
 use Rattle.ledger.proofs.Based.{based_as, based_record}
 use Rattle.ledger.proofs.ledger.Ledger.begin_checked.Given as given
 use Rattle.ledger.proofs.ledger.Ledger.begin_checked.Goals as goal
@@ -76,11 +76,11 @@ plan over c =
     let number : c.new-number.result ≡ length a.journal.history + 1 = grind (arith, common_steps) in
     let dated = subst
     (λ (m : ℤ). c.in_ok-prepared.prepared.plan ≡ planned_from a.seats c.turn.inside.session c.new-number.result
-    (spelled g fs c.turn.inside.session (label_of (caps fs c.turn.inside.session) c.args.line.now)
+    (octets_for g fs c.turn.inside.session (label_of (caps fs c.turn.inside.session) c.args.line.now)
     (of_asked g fs c.turn.inside.session (asked_of c.args.line.now)) m c.new-number.result) q)
     c.moment_of_record.ensures c.in_ok-prepared.ensures.plan in
     let made = dated ∙ ap
-    (λ (t : ℕ). planned_from a.seats t c.new-number.result (spelled g fs t (label_of (caps fs t) c.args.line.now)
+    (λ (t : ℕ). planned_from a.seats t c.new-number.result (octets_for g fs t (label_of (caps fs t) c.args.line.now)
     (of_asked g fs t (asked_of c.args.line.now)) c.args.moment c.new-number.result) q) (session over c) in
     said_plan over.O.Outbox.sent a.journal g fs a.seats a.outboxes.boxes a.plan a.busy c.self.invariant.kept
     c.args.turn.now c.args.line.now c.args.moment
@@ -94,9 +94,9 @@ pub invariant_of-self-3 : goal.invariant_of-self-3
 invariant_of-self-3 over c =
     let a = c.self.inside in let s = c.args.turn.now.session in let asked = asked_of c.args.line.now in
     let room : length c.in_ok-prepared.prepared.plan ≤ c.append.new.self.left = grind (arith, common_steps) in
-    let kept : c.held-room.result ≡ held a.journal.history = c.held-room.ensures.kept in
+    let kept : c.reserve_count-room.result ≡ kept_total a.journal.history = c.reserve_count-room.ensures.kept in
     let ok = c.reserve.ensures.ok in let more = c.append.ensures.appended.room in
-    let free : held a.journal.history ≤ c.append.new.self.room = grind (arith, common_steps) in
+    let free : kept_total a.journal.history ≤ c.append.new.self.room = grind (arith, common_steps) in
     let more : c.commit.new.roster.facts
     ≡ after a.roster.facts c.in_ok-prepared.prepared.deeds.items = c.commit.ensures.facts ∙ ap
     (λ (fs : List Deed). after fs c.in_ok-prepared.prepared.deeds.items) c.prepare.ensures.facts in
@@ -104,7 +104,7 @@ invariant_of-self-3 over c =
     ≡ after a.roster.facts (deeds_of (of_asked a.roster.settings a.roster.facts s asked)) =
     more ∙ ap (after a.roster.facts) (c.in_ok-prepared.ensures.deeds ∙ ap
     (λ (t : ℕ). deeds_of (of_asked a.roster.settings a.roster.facts t asked)) (session over c)) in
-    let same : opened c.commit.new.roster.facts ≡ opened a.roster.facts = ap opened more
+    let same : opened_in c.commit.new.roster.facts ≡ opened_in a.roster.facts = ap opened_in more
     ∙ c.in_ok-prepared.ensures.opened in
     let limit_ : most a.journal.limit < 18446744073709551616 = subst
     (λ m. most m.limit < 18446744073709551616) (sym c.self.view_is) c.requires.fits in
@@ -153,7 +153,7 @@ returns-clause-ok over c =
     (settings over c)
     ∙ begun_is a.journal c.append.new.self a.roster.settings a.outboxes.boxes a.plan c.in_ok-prepared.prepared.plan
     a.busy (Said b.session b.next c.args.line.now) c.args.moment (history over c) (limit over c) (plan over c)
-    ∙ ap (λ m. begun m (Said b.session b.next c.args.line.now) c.args.moment) c.self.view_is
+    ∙ ap (λ m. after_begin m (Said b.session b.next c.args.line.now) c.args.moment) c.self.view_is
 
 -- ---- what is asked of calls
 

@@ -2,7 +2,7 @@ use Rattle.std.proofs.Common.{◌≡◌, [], false, refl, ap, sym}
 use Rattle.chronicle.specs.Journal.{Limit}
 use Rattle.ledger.proofs.KeptSteps.{empty_kept}
 use Rattle.ledger.proofs.Rolling.{shown_empty}
-use Rattle.ledger.proofs.Hearing.{since_none}
+use Rattle.ledger.proofs.LastActivity.{since_none}
 use Rattle.ledger.proofs.ledger.Ledger.empty.Goals as goal
 
 pub invariant_of-result : goal.invariant_of-result

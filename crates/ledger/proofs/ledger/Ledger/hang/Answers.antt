@@ -16,7 +16,7 @@ use Rattle.ledger.proofs.Begins.{hung_put_is, hung_miss_is}
 use Rattle.ledger.proofs.Appends.{shut_seats, hang_room, hung_follows, hung_put, hung_missed}
 use Rattle.ledger.proofs.Sent.{item_is}
 use Rattle.ledger.proofs.Owes.{few_put}
-use Rattle.ledger.proofs.Hearing.{since_as, since_record, since_missed, since_put}
+use Rattle.ledger.proofs.LastActivity.{since_as, since_record, since_missed, since_put}
 use Rattle.ledger.proofs.Based.{based_as, based_boxes, based_record, based_missed, set_many, put_still}
 use Rattle.ledger.proofs.ledger.Ledger.hang.Goals as goal
 
@@ -47,9 +47,9 @@ invariant_of-self over c =
     record {
       kept =
           subst (λ (g : Settings). IsKept over.O.Outbox.sent c.append-number.new.self g c.end.new.self.facts
-          c.shut.new.self c.offer.new.self.boxes a.plan a.busy) (sym c.end.ensures.settings)
+          c.set_shut.new.self c.offer.new.self.boxes a.plan a.busy) (sym c.end.ensures.settings)
           (subst (λ (xs : List Seat). IsKept over.O.Outbox.sent c.append-number.new.self a.roster.settings
-          c.end.new.self.facts xs c.offer.new.self.boxes a.plan a.busy) (sym c.shut.ensures)
+          c.end.new.self.facts xs c.offer.new.self.boxes a.plan a.busy) (sym c.set_shut.ensures)
           (hung_put over.O.Outbox.sent a.journal a.roster.settings a.roster.facts a.seats a.outboxes.boxes a.plan
           a.busy c.self.invariant.kept c.append-number.new.self c.end.new.self.facts
           c.offer.new.self.boxes s w c.args.moment over.O.Outbox.accepts may app.history app.limit left app.room
@@ -110,10 +110,10 @@ invariant_of-self-2 over c =
     let known : c.end.new.self.facts ≡ Ended s w [] ∷ a.roster.facts = c.end.ensures.facts in
     record {
       kept =
-          subst (λ (g : Settings). IsKept over.O.Outbox.sent c.miss.new.self g c.end.new.self.facts c.shut.new.self
+          subst (λ (g : Settings). IsKept over.O.Outbox.sent c.miss.new.self g c.end.new.self.facts c.set_shut.new.self
           c.offer.new.self.boxes a.plan a.busy) (sym c.end.ensures.settings)
           (subst (λ (xs : List Seat). IsKept over.O.Outbox.sent c.miss.new.self a.roster.settings
-          c.end.new.self.facts xs c.offer.new.self.boxes a.plan a.busy) (sym c.shut.ensures)
+          c.end.new.self.facts xs c.offer.new.self.boxes a.plan a.busy) (sym c.set_shut.ensures)
           (subst (λ xs. IsKept over.O.Outbox.sent c.miss.new.self a.roster.settings c.end.new.self.facts
           (shut_seats a.seats s) xs a.plan a.busy) (sym (c.offer.ensures.same c.if-offer.false))
           (hung_missed over.O.Outbox.sent a.journal a.roster.settings a.roster.facts a.seats a.outboxes.boxes a.plan
@@ -166,13 +166,13 @@ returns-clause-ok over c =
     (c.self.invariant.kept.sound.idle may.idle) may.idle may.not_shut app.history app.limit c.miss.new.self
     missed c.miss.ensures.history c.miss.ensures.limit)))
 
-pub shut-requires-clause-from_1 : goal.shut-requires-clause-from_1
-shut-requires-clause-from_1 over c =
+pub set_shut-requires-clause-from_1 : goal.set_shut-requires-clause-from_1
+set_shut-requires-clause-from_1 over c =
     let may = subst (λ m. MayHang m c.args.session c.args.moment) (sym c.self.view_is) c.in_ok-check_hang.ensures.ok in
     may.known.from_1
 
-pub shut-requires-clause-opened : goal.shut-requires-clause-opened
-shut-requires-clause-opened over c =
+pub set_shut-requires-clause-opened : goal.set_shut-requires-clause-opened
+set_shut-requires-clause-opened over c =
     let may = subst (λ m. MayHang m c.args.session c.args.moment) (sym c.self.view_is) c.in_ok-check_hang.ensures.ok in
     let few = may.known.opened in
     let many = c.self.invariant.kept.sound.sessions in let places = c.self.invariant.kept.places in omega arith

@@ -8,11 +8,11 @@ use Rattle.roster.specs.declared.deed.Deed.{Deed}
 use Rattle.roster.specs.declared.deed.Deed.TheVariants as deed
 use Rattle.ledger.specs.Seats.{no_seat}
 use Rattle.ledger.specs.Kept.{IsKept}
-use Rattle.ledger.specs.Ledger.{MayOpen, held}
+use Rattle.ledger.specs.Ledger.{MayOpen, kept_total}
 use Rattle.ledger.proofs.Opened.{sessions_le, seats_held}
 use Rattle.ledger.proofs.KeptSteps.{shown, opened_kept}
 use Rattle.ledger.specs.declared.last_heard.Since.{Since}
-use Rattle.ledger.proofs.Hearing.{since_as, since_opened, since_next}
+use Rattle.ledger.proofs.LastActivity.{since_as, since_opened, since_next}
 use Rattle.ledger.proofs.Based.{based_as, based_boxes, based_record, opened_many, opened_still}
 use Rattle.ledger.proofs.ledger.Ledger.open.Goals as goal
 
@@ -29,9 +29,9 @@ invariant_of-self-2 over c =
     app.history ∙ ap (λ h. fresh_record h c.args.moment (Opened c.new-session.result c.in-Ok-clone.told) ∷ h)
     same.history in
     let limit : c.append.new.self.limit ≡ a.journal.limit = app.limit ∙ same.limit in
-    let kept : c.held-room.result ≡ held a.journal.history = c.held-room.ensures.kept ∙ ap
-    (λ m. held m.history) (sym c.self.view_is) in
-    let free : held a.journal.history + 2 ≤ c.append.new.self.room = let ok = c.reserve.ensures.ok in
+    let kept : c.reserve_count-room.result ≡ kept_total a.journal.history = c.reserve_count-room.ensures.kept ∙ ap
+    (λ m. kept_total m.history) (sym c.self.view_is) in
+    let free : kept_total a.journal.history + 2 ≤ c.append.new.self.room = let ok = c.reserve.ensures.ok in
     let more = app.room in grind (arith, common_steps) in
     let known : c.apply.new.self.facts
     ≡ deed.Opened c.new-session.result c.args.host ∷ a.roster.facts = c.apply.ensures.facts ∙ ap
@@ -71,8 +71,8 @@ invariant_of-self-2 over c =
           (let n = c.self.invariant.kept.places in omega arith) may.in_time.not_earlier) heard history boxes);
     }
 
-pub overflow_add-opened : goal.overflow_add-opened
-overflow_add-opened over c =
+pub overflow_add-opened_count : goal.overflow_add-opened_count
+overflow_add-opened_count over c =
     let a = c.self.inside in
     let limit : most a.journal.limit < 18446744073709551616 = subst
     (λ m. most m.limit < 18446744073709551616) (sym c.self.view_is) c.in-Ok.ensures.fits in
@@ -81,7 +81,7 @@ overflow_add-opened over c =
     let many = c.self.invariant.kept.sound.sessions in let places = c.self.invariant.kept.places in
     let may : MayOpen (shown a.journal a.roster.settings a.outboxes.boxes a.plan a.busy) c.args.moment = subst
     (λ m. MayOpen m c.args.moment) (sym c.self.view_is) (c.in-Ok.ensures.ok) in
-    let more = may.room in let is = c.opened.ensures in omega arith
+    let more = may.room in let is = c.opened_count.ensures in omega arith
 
 pub open-requires-2-clause-next : goal.open-requires-2-clause-next
 open-requires-2-clause-next over c = let session : c.new-session.result

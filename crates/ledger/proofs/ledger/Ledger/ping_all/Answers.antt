@@ -3,13 +3,13 @@ use Rattle.std.proofs.Common.{is_some, slice_index_or, refl, ap, sym, ◌∙◌,
 use Rattle.std.proofs.lemmas.Grind.{common_steps}
 use Rattle.chronicle.specs.declared.record.Kind.TheVariants.{Ticked}
 use Rattle.chronicle.specs.Journal.{fresh_record}
-use Rattle.ledger.specs.Ledger.{MayTick, HasRoom, plan_of, begun, held}
-use Rattle.ledger.specs.LastHeard.{since_at, is_due, picked, with_pings}
+use Rattle.ledger.specs.Ledger.{MayTick, HasRoom, plan_of, after_begin, kept_total}
+use Rattle.ledger.specs.LastHeard.{since_at, is_due, who_pass, with_pings}
 use Rattle.ledger.specs.Seats.{pinged_text, planned_with}
 use Rattle.ledger.proofs.Begins.{begun_is}
 use Rattle.ledger.proofs.Based.{based_as, based_record}
 use Rattle.ledger.proofs.Due.{picked_here}
-use Rattle.ledger.proofs.Hearing.{since_as}
+use Rattle.ledger.proofs.LastActivity.{since_as}
 use Rattle.ledger.proofs.KeptSteps.{shown}
 use Rattle.ledger.proofs.Pinging.{tick_plan, tick_kept, since_after}
 use Rattle.ledger.proofs.ledger.Ledger.ping_all.Given as given
@@ -56,10 +56,10 @@ invariant_of-self-2 over c =
     let may : MayTick before m = subst (λ k. MayTick k m) (sym c.self.view_is) c.requires.may in
     let has : HasRoom before = subst (λ k. HasRoom k) (sym c.self.view_is) c.requires.room in
     let room : length c.in_ok-plan.plan ≤ c.append.new.self.left = grind (arith, common_steps) in
-    let kept : c.held-room.result ≡ held h = c.held-room.ensures.kept ∙ ap
-    (λ k. held k.history) (sym c.self.view_is) in
+    let kept : c.reserve_count-room.result ≡ kept_total h = c.reserve_count-room.ensures.kept ∙ ap
+    (λ k. kept_total k.history) (sym c.self.view_is) in
     let ok = c.in_ok-reserve.ensures.ok in let more = c.append.ensures.appended.room in
-    let free : held h ≤ c.append.new.self.room = grind (arith, common_steps) in
+    let free : kept_total h ≤ c.append.new.self.room = grind (arith, common_steps) in
     record {
       kept = tick_kept over.O.Outbox.sent a.journal g a.roster.facts a.seats was a.plan a.busy c.self.invariant.kept
           a.last_heard c.self.invariant.since c.in_ok-due.ensures.once c.append.new.self c.in_ok-plan.plan m
@@ -69,7 +69,7 @@ invariant_of-self-2 over c =
           (based_record a.base h r n g was c.self.invariant.based) (history over c)
           (ap (λ l. l.dropped) (limit over c)) refl refl);
       cut = c.self.invariant.cut ∙ sym (ap (λ l. l.is_cut) (limit over c));
-      since = since_as (with_pings a.last_heard (picked (is_due a.seats m) a.last_heard)) c.ping_each.new.self
+      since = since_as (with_pings a.last_heard (who_pass (is_due a.seats m) a.last_heard)) c.ping_each.new.self
           c.append.new.self.history c.append.new.self.history was was
           (since_after over.O.Outbox.sent a.journal g a.roster.facts a.seats was a.plan a.busy c.self.invariant.kept
           a.last_heard c.self.invariant.since c.in_ok-due.ensures.once c.append.new.self m may (history over c))
@@ -82,4 +82,4 @@ returns-clause-ok over c =
     let a = c.self.inside in
     begun_is a.journal c.append.new.self a.roster.settings a.outboxes.boxes a.plan c.in_ok-plan.plan a.busy Ticked
     c.args.moment (history over c) (limit over c) (plan over c)
-    ∙ ap (λ m. begun m Ticked c.args.moment) c.self.view_is
+    ∙ ap (λ m. after_begin m Ticked c.args.moment) c.self.view_is

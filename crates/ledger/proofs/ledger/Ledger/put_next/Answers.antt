@@ -4,7 +4,7 @@ use Rattle.std.proofs.Common.{arith, ◌≡◌, ◌∷◌, length, Some, sym, �
 use Rattle.std.proofs.Common.{◌<◌, slice_set, true, ap, is_some, ℕ, ◌+◌}
 use Rattle.std.proofs.lemmas.Grind.{common_steps}
 use Rattle.deliveries.specs.declared.item.Item.{Item}
-use Rattle.ledger.specs.declared.out.Step.TheVariants.{Put, Missed}
+use Rattle.ledger.specs.declared.outcomes.Step.TheVariants.{Put, Missed}
 use Rattle.ledger.specs.Kept.{IsKept}
 use Rattle.ledger.specs.Seats.{IsThere, MayFollow, IsTaken, IsNotTaken}
 use Rattle.ledger.specs.Ledger.{IsPlan, IsPutNext, box_at, is_here}
@@ -13,7 +13,7 @@ use Rattle.ledger.proofs.Sound.{next_here, next_follows}
 use Rattle.ledger.proofs.Sent.{item_is}
 use Rattle.ledger.proofs.Puts.{put_is, miss_is}
 use Rattle.ledger.proofs.Owes.{few_put}
-use Rattle.ledger.proofs.Hearing.{since_as, since_missed, since_put}
+use Rattle.ledger.proofs.LastActivity.{since_as, since_missed, since_put}
 use Rattle.ledger.proofs.Based.{based_as, based_boxes, based_missed, set_many, put_still}
 use Rattle.ledger.proofs.ledger.Ledger.put_next.Goals as goal
 
@@ -90,10 +90,10 @@ invariant_of-self-2 over c =
     let plan : a.plan ≡ p ∷ qs = grind (arith, common_steps) in
     record {
       kept =
-          subst (λ xs. IsKept over.O.Outbox.sent c.miss.new.self a.roster.settings a.roster.facts c.shut.new.self xs
-          qs a.busy) (sym (c.offer.ensures.same c.if-offer.false))
+          subst (λ xs. IsKept over.O.Outbox.sent c.miss.new.self a.roster.settings a.roster.facts c.set_shut.new.self
+          xs qs a.busy) (sym (c.offer.ensures.same c.if-offer.false))
           (dropped_kept over.O.Outbox.sent a.journal c.miss.new.self a.roster.settings a.roster.facts a.seats _
-          a.outboxes.boxes a.plan qs a.busy p c.self.invariant.kept plan c.shut.ensures c.miss.ensures);
+          a.outboxes.boxes a.plan qs a.busy p c.self.invariant.kept plan c.set_shut.ensures c.miss.ensures);
       based = (let was = a.outboxes.boxes in let h = a.journal.history in let n = a.journal.limit.dropped in
           let g = a.roster.settings in
           let few : n < length h = subst (λ m. m.limit.dropped < length m.history)

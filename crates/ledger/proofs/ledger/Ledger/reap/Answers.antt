@@ -2,7 +2,7 @@ use Rattle.std.proofs.Common.{arith, ◌≤◌, length, sym, ◌∙◌, subst, r
 use Rattle.ledger.specs.Ledger.{MayReap}
 use Rattle.ledger.proofs.KeptSteps.{shown, reaped_kept}
 use Rattle.std.specs.Map.{remove_entry}
-use Rattle.ledger.proofs.Hearing.{since_as, since_reaped}
+use Rattle.ledger.proofs.LastActivity.{since_as, since_reaped}
 use Rattle.ledger.proofs.Based.{based_as, based_reaped, forgets_still}
 use Rattle.ledger.proofs.ledger.Ledger.reap.Goals as goal
 

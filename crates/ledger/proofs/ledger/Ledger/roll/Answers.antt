@@ -2,9 +2,9 @@ use Rattle.std.proofs.Common.{arith, ◌≡◌, ℕ, ◌<◌, ◌≤◌, true, l
 use Rattle.chronicle.specs.History.{sessions}
 use Rattle.chronicle.specs.Journal.{Limit}
 use Rattle.chronicle.proofs.Most.{most_low}
-use Rattle.ledger.specs.Ledger.{is_here, rolled}
+use Rattle.ledger.specs.Ledger.{is_here, after_roll}
 use Rattle.ledger.specs.Noted.{is_noted}
-use Rattle.ledger.proofs.Hearing.{since_as}
+use Rattle.ledger.proofs.LastActivity.{since_as}
 use Rattle.ledger.proofs.Rolling.{cut_kept, cut_based, shown_cut}
 use Rattle.ledger.proofs.ledger.Ledger.roll.Goals as goal
 
@@ -40,4 +40,4 @@ pub returns-clause-ok : goal.returns-clause-ok
 returns-clause-ok over c =
     let a = c.self.inside in
     shown_cut a.journal c.cut.new.self a.roster.settings a.outboxes.boxes a.plan a.busy c.cut.ensures ∙ ap
-    (λ m. rolled m) c.self.view_is
+    (λ m. after_roll m) c.self.view_is

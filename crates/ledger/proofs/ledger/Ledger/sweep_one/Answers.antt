@@ -6,20 +6,21 @@ use Rattle.chronicle.specs.declared.record.Kind.TheVariants.{Gone}
 use Rattle.chronicle.specs.Journal.{most, fresh_record}
 use Rattle.registration.specs.declared.settings.Settings.{Settings}
 use Rattle.roster.specs.declared.deed.Deed.{Deed}
-use Rattle.roster.specs.LookBack.{after, opened}
-use Rattle.drafts.specs.Effects.{deeds_of}
+use Rattle.roster.specs.LookBack.{after, opened_in}
+use Rattle.transactions.specs.Effects.{deeds_of}
 use Rattle.deeds.specs.Departure.{departs}
-use Rattle.deeds.specs.Deeds.{spelled}
+use Rattle.deeds.specs.Deeds.{octets_for}
 use Rattle.ledger.specs.declared.seat.Seat.{Seat}
 use Rattle.chronicle.specs.History.{sessions}
 use Rattle.ledger.specs.Kept.{IsKept}
 use Rattle.ledger.specs.Seats.{planned_from}
-use Rattle.ledger.specs.Ledger.{MaySweep, to_sweep, plan_of, begun, held, newest_actor, newest_next, newest_missed}
+use Rattle.ledger.specs.Ledger.{MaySweep, to_sweep, plan_of, after_begin, kept_total, newest_actor, newest_next}
+use Rattle.ledger.specs.Ledger.{newest_missed}
 use Rattle.ledger.proofs.Sweeps.{swept_is, seats_sweep}
 use Rattle.ledger.proofs.KeptSteps.{shown}
 use Rattle.ledger.proofs.Begins.{begun_is}
 use Rattle.ledger.proofs.Appends.{sweep_room, gone_plan, gone_kept}
-use Rattle.ledger.proofs.Hearing.{since_as, since_record}
+use Rattle.ledger.proofs.LastActivity.{since_as, since_record}
 use Rattle.ledger.proofs.Based.{based_as, based_record}
 use Rattle.ledger.proofs.ledger.Ledger.sweep_one.Given as given
 use Rattle.ledger.proofs.ledger.Ledger.sweep_one.Goals as goal
@@ -29,7 +30,7 @@ overflow_add-newest over c =
     let a = c.self.inside in
     let next = subst (λ m. to_sweep m.history ≡ Some c.args.session) (sym c.self.view_is) c.requires.next in
     let limit : most a.journal.limit < 18446744073709551616 = subst
-    (λ m. most m.limit < 18446744073709551616) (sym c.self.view_is) c.held-room.ensures.fits in
+    (λ m. most m.limit < 18446744073709551616) (sym c.self.view_is) c.reserve_count-room.ensures.fits in
     let few = sweep_room over.O.Outbox.sent a.journal a.roster.settings a.roster.facts a.seats a.outboxes.boxes
     a.plan a.busy c.self.invariant.kept c.args.session c.args.moment next in
     let some = few.0 in let seated = few.1 in let known = few.2 in let room = few.3 in
@@ -40,7 +41,7 @@ prepare_gone-requires over c =
     let a = c.self.inside in
     let next = subst (λ m. to_sweep m.history ≡ Some c.args.session) (sym c.self.view_is) c.requires.next in
     let limit : most a.journal.limit < 18446744073709551616 = subst
-    (λ m. most m.limit < 18446744073709551616) (sym c.self.view_is) c.held-room.ensures.fits in
+    (λ m. most m.limit < 18446744073709551616) (sym c.self.view_is) c.reserve_count-room.ensures.fits in
     let few = sweep_room over.O.Outbox.sent a.journal a.roster.settings a.roster.facts a.seats a.outboxes.boxes
     a.plan a.busy c.self.invariant.kept c.args.session c.args.moment next in
     let some = few.0 in let seated = few.1 in let known = few.2 in let room = few.3 in
@@ -51,12 +52,12 @@ append-requires over c =
     let a = c.self.inside in
     let next = subst (λ m. to_sweep m.history ≡ Some c.args.session) (sym c.self.view_is) c.requires.next in
     let limit : most a.journal.limit < 18446744073709551616 = subst
-    (λ m. most m.limit < 18446744073709551616) (sym c.self.view_is) c.held-room.ensures.fits in
+    (λ m. most m.limit < 18446744073709551616) (sym c.self.view_is) c.reserve_count-room.ensures.fits in
     let few = sweep_room over.O.Outbox.sent a.journal a.roster.settings a.roster.facts a.seats a.outboxes.boxes
     a.plan a.busy c.self.invariant.kept c.args.session c.args.moment next in
     let some = few.0 in let seated = few.1 in let known = few.2 in let room = few.3 in
-    let kept : c.held-room.result ≡ held a.journal.history = c.held-room.ensures.kept ∙ ap
-    (λ m. held m.history) (sym c.self.view_is) in
+    let kept : c.reserve_count-room.result ≡ kept_total a.journal.history = c.reserve_count-room.ensures.kept ∙ ap
+    (λ m. kept_total m.history) (sym c.self.view_is) in
     let ok = c.reserve.ensures.ok in grind (arith, common_steps)
 
 pub leave-requires : goal.leave-requires
@@ -89,7 +90,7 @@ plan over c =
     gone_plan over.O.Outbox.sent a.journal a.roster.settings a.roster.facts a.seats a.outboxes.boxes a.plan a.busy
     c.self.invariant.kept c.args.session c.new-number.result c.args.moment c.in_ok-prepared.prepared.plan
     next number (subst (λ (m : ℤ). c.in_ok-prepared.prepared.plan
-    ≡ planned_from a.seats c.args.session c.new-number.result (spelled a.roster.settings a.roster.facts
+    ≡ planned_from a.seats c.args.session c.new-number.result (octets_for a.roster.settings a.roster.facts
     c.args.session None (departs a.roster.facts c.args.session) m c.new-number.result) false)
     c.moment_of_record.ensures c.in_ok-prepared.ensures.plan)
 
@@ -105,16 +106,16 @@ invariant_of-self-2 over c =
     let may : MaySweep (shown a.journal a.roster.settings a.outboxes.boxes a.plan a.busy) c.args.moment = subst
     (λ m. MaySweep m c.args.moment) (sym c.self.view_is) c.requires.may in
     let room : length c.in_ok-prepared.prepared.plan ≤ c.append.new.self.left = grind (arith, common_steps) in
-    let kept : c.held-room.result ≡ held a.journal.history = c.held-room.ensures.kept ∙ ap
-    (λ m. held m.history) (sym c.self.view_is) in
+    let kept : c.reserve_count-room.result ≡ kept_total a.journal.history = c.reserve_count-room.ensures.kept ∙ ap
+    (λ m. kept_total m.history) (sym c.self.view_is) in
     let ok = c.reserve.ensures.ok in let more = c.append.ensures.appended.room in
-    let free : held a.journal.history ≤ c.append.new.self.room + 1 = grind (arith, common_steps) in
+    let free : kept_total a.journal.history ≤ c.append.new.self.room + 1 = grind (arith, common_steps) in
     let more_known : c.commit.new.roster.facts
     ≡ after a.roster.facts c.in_ok-prepared.prepared.deeds.items = c.commit.ensures.facts ∙ ap
     (λ (fs : List Deed). after fs c.in_ok-prepared.prepared.deeds.items) c.prepare.ensures.facts in
     let known : c.commit.new.roster.facts ≡ after a.roster.facts (deeds_of es) = more_known
     ∙ ap (after a.roster.facts) c.in_ok-prepared.ensures.deeds in
-    let same : opened c.commit.new.roster.facts ≡ opened a.roster.facts = ap opened more_known
+    let same : opened_in c.commit.new.roster.facts ≡ opened_in a.roster.facts = ap opened_in more_known
     ∙ c.in_ok-prepared.ensures.opened in
     record {
       kept =
@@ -146,7 +147,7 @@ returns-clause-ok over c =
     (settings over c)
     ∙ begun_is a.journal c.append.new.self a.roster.settings a.outboxes.boxes a.plan c.in_ok-prepared.prepared.plan
     a.busy (Gone c.args.session) c.args.moment (history over c) (limit over c) (plan over c)
-    ∙ ap (λ m. begun m (Gone c.args.session) c.args.moment) c.self.view_is
+    ∙ ap (λ m. after_begin m (Gone c.args.session) c.args.moment) c.self.view_is
 
 pub returns-clause-out : goal.returns-clause-out
 returns-clause-out over c =

@@ -1,6 +1,6 @@
 use Rattle.std.proofs.Common.{◌≡◌, ◌++◌, map}
 use Rattle.std.specs.Vec.Iter.{into_iter_items}
-use Rattle.ledger.specs.Heard.{spelled_at}
+use Rattle.ledger.specs.FanOut.{spelled_at}
 use Rattle.ledger.proofs.line_texts.LineTexts.new.Given as goal
 
 -- the lines so far, with those that are left

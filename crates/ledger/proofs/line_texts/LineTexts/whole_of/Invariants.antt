@@ -1,6 +1,6 @@
 use Rattle.std.proofs.Common.{◌≡◌, take}
 use Rattle.std.specs.List.{flat_map}
-use Rattle.ledger.specs.Heard.{text_of}
+use Rattle.ledger.specs.FanOut.{text_of}
 use Rattle.ledger.proofs.line_texts.LineTexts.whole_of.Given as goal
 
 -- what was heard so far

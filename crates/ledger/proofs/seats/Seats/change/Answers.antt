@@ -2,7 +2,7 @@ use Rattle.std.proofs.Common.{ℕ, ◌-◌, Some, length, slice_set, refl, ap, s
 use Rattle.std.specs.VecDeque.{deque_capacity}
 use Rattle.indexmap.specs.IndexMap.{with_value_at}
 use Rattle.ledger.specs.declared.seat.Seat.{Seat}
-use Rattle.ledger.specs.Seats.{placed}
+use Rattle.ledger.specs.Seats.{at_its_place}
 use Rattle.ledger.proofs.Counted.{ends_says, ends_not, unchanged, shut_kept, shut_room}
 use Rattle.ledger.proofs.Counted.{shut_counted, list_up, list_absent}
 use Rattle.ledger.proofs.Listed.{placed_more}
@@ -107,7 +107,8 @@ invariant_of-self-2 c =
     place_changed a.seats s c.in-Some.place c.in-Some.ensures.there x c.in-Some-get_index_mut.ensures.value w
     c.in-Some-get_index_mut.ensures.unique in
     let e = ends_says c.args.shut x.shut x.gone (sym c.ends-is_end.ensures ∙ c.if-not-is_end.false) in
-    let added = c.add_in_order.ensures.added ∙ ap (λ (k : ℕ). placed k a.to_sweep.items) c.number-number.ensures in
+    let added = c.add_in_order.ensures.added
+    ∙ ap (λ (k : ℕ). at_its_place k a.to_sweep.items) c.number-number.ensures in
     kept_set a.seats.entries a.opened rows c.self.view_is now s (Some w) written (a.held - 1)
     c.add_in_order.new.numbers.items (deque_capacity c.add_in_order.new.numbers) c.self.invariant.opened is.0
     (shut_counted rows a.held a.to_sweep.items most

@@ -13,7 +13,7 @@ returns-clause-some c =
     let a = c.self.inside in let x = c.in_ok-seat.seat.now in
     let is = seat_found a.seats.entries a.opened c.args.self.now c.self.view_is c.args.session x
     c.self.invariant.opened c.in_ok-seat.ensures in
-    (is.0, c.standing.ensures.same ∙ is.1)
+    (is.0, c.seat_as_it_is.ensures.same ∙ is.1)
 
 pub returns-clause-stands : goal.returns-clause-stands
-returns-clause-stands c = ap stands c.standing.ensures.same ∙ c.standing.ensures.stands
+returns-clause-stands c = ap stands c.seat_as_it_is.ensures.same ∙ c.seat_as_it_is.ensures.stands

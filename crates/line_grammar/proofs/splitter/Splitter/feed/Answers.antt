@@ -1,7 +1,7 @@
 use Rattle.std.proofs.Common.{◌≡◌, ◌++◌, ◌∙◌, ap}
 use Rattle.std.specs.Option.{option_to_list}
 use Rattle.std.proofs.lemmas.Result.{on_ok_weaker}
-use Rattle.line_grammar.specs.Lines.{kept_of, lines, unfinished}
+use Rattle.line_grammar.specs.Lines.{kept_of, lines, open_line}
 use Rattle.line_grammar.specs.Steps.{kept_with, ended_piece}
 use Rattle.line_grammar.proofs.Streams.{fed_fresh, fed_within, fed_over}
 use Rattle.line_grammar.proofs.splitter.Splitter.feed.Goals as goal
@@ -19,7 +19,7 @@ returns-in_default-clause-ok c =
 pub returns-clause-ok : goal.returns-clause-ok
 returns-clause-ok c = λ stream was.
     let front = c.in-Some.front.now in let rest = c.in-Some.rest.now in
-    let next : c.extend-2.new.self ≡ kept_of (unfinished rest) = c.in_ok-extend.ensures.ok ∙ ap
+    let next : c.extend-2.new.self ≡ kept_of (open_line rest) = c.in_ok-extend.ensures.ok ∙ ap
     (λ k. kept_with k c.in_ok-last.last.now) c.new-next.ensures ∙ ap kept_of c.in_ok-last.ensures.rest in
     let found : c.push_lines.new.out.items ≡ lines rest = c.in_ok-last.ensures.lines ∙ ap
     (λ xs. xs ++ lines rest) c.new-found.ensures.items in

@@ -4,7 +4,7 @@ use Rattle.crossbeam_channel.specs.Claims.{Pass, IsSeatAt}
 use Rattle.crossbeam_channel.specs.Ends.{sends_on, receives_on}
 use Rattle.deliveries.specs.declared.item.Item.{Item}
 use Rattle.outbox.specs.declared.rule.Log.{Log}
-use Rattle.outbox.specs.Ends.{Puttings, Takings, known}
+use Rattle.outbox.specs.Ends.{Puttings, Takings, known_by}
 use Rattle.outbox.proofs.Keeps.{merges}
 use Rattle.outbox.proofs.ends.SenderOutbox.close.Goals as goal
 
@@ -38,8 +38,8 @@ absorb-requires-clause-channel g c =
 
 pub absorb-requires-clause-rule : goal.absorb-requires-clause-rule
 absorb-requires-clause-rule g c = merges _ _ _ _
-    (ap (λ (p : Pass Item Log). (known p).sends) c.apart-sender.ensures.pass ∙ c.self.invariant.1)
-    (ap (λ (p : Pass Item Log). (known p).takes) c.apart-receiver.ensures.pass ∙ c.taker.invariant.1)
+    (ap (λ (p : Pass Item Log). (known_by p).sends) c.apart-sender.ensures.pass ∙ c.self.invariant.1)
+    (ap (λ (p : Pass Item Log). (known_by p).takes) c.apart-receiver.ensures.pass ∙ c.taker.invariant.1)
 
 pub drain-requires-clause-channel : goal.drain-requires-clause-channel
 drain-requires-clause-channel g c =

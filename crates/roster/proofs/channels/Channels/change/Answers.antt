@@ -4,7 +4,7 @@ use Rattle.std.specs.Str.{bytes_eq}
 use Rattle.roster.specs.Table.{Table}
 use Rattle.roster.specs.declared.tables.Channel.{Channel}
 use Rattle.roster.specs.Stands.{AreHeldBut}
-use Rattle.roster.specs.Tables.{populated, AreKeyed}
+use Rattle.roster.specs.Tables.{with_someone, AreKeyed}
 use Rattle.roster.proofs.Keyed.{removed_keyed, keyed_removed, all_populated}
 use Rattle.roster.proofs.channels.Channels.change.Goals as goal
 
@@ -23,7 +23,7 @@ returns-then-change_keyed-clause-changes c =
     record {
       between = c.change_keyed.new.self.list;
       reholds = c.change_keyed.ensures.reholds;
-      ended = ap values_of gone ∙ removed_keyed es n c.self.invariant but ∙ ap populated view;
+      ended = ap values_of gone ∙ removed_keyed es n c.self.invariant but ∙ ap with_someone view;
     }
 
 pub returns-else-change_keyed-clause-changes : goal.returns-else-change_keyed-clause-changes

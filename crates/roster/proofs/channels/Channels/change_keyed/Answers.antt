@@ -1,7 +1,7 @@
 use Rattle.std.proofs.Common.{List, arith, sym, ap, ◌∙◌, subst}
 use Rattle.std.specs.Map.{values_of}
-use Rattle.channel_state.specs.Held.{Held}
-use Rattle.channel_state.specs.State.{is_some_one, changed}
+use Rattle.channel_state.specs.Held.{ChannelView}
+use Rattle.channel_state.specs.State.{is_some_one, with_change}
 use Rattle.roster.specs.Table.{Table}
 use Rattle.roster.specs.declared.tables.Channel.{Channel}
 use Rattle.roster.specs.Tables.{state_in, Reholds}
@@ -19,8 +19,8 @@ returns-in_default-clause-reholds c =
     let out = unseen a.channels.entries ks c.args.key.now n c.requires.key c.self.invariant view
     c.in_default.ensures.value in
     let same = ap (λ m. values_of m.entries) c.get_mut.follows.holds-at-none ∙ view in
-    subst (λ (ls : List Channel). Reholds ks ls n (changed c.args.change (state_in ks n)) 1) (sym same)
-    (reholds_none ks n (changed c.args.change) 1 out)
+    subst (λ (ls : List Channel). Reholds ks ls n (with_change c.args.change (state_in ks n)) 1) (sym same)
+    (reholds_none ks n (with_change c.args.change) 1 out)
 
 pub change-requires : goal.change-requires
 change-requires c =
@@ -47,7 +47,7 @@ returns-clause-reholds c =
     c.in-Some.ensures.value in
     let list = now_list a.channels.entries _ ks c.args.key.now n x h c.requires.key c.self.invariant view
     c.in-Some.ensures.value (c.get_mut.follows.holds _).0 in
-    reholds_found ks _ n x h (changed c.args.change) 1 at list c.change.ensures.state
+    reholds_found ks _ n x h (with_change c.args.change) 1 at list c.change.ensures.state
     (let r = c.change.ensures.room in omega arith)
 
 pub returns-clause-ended : goal.returns-clause-ended
@@ -60,7 +60,7 @@ returns-clause-ended c = λ e.
     let list = now_list a.channels.entries _ ks c.args.key.now n x h c.requires.key c.self.invariant view
     c.in-Some.ensures.value (c.get_mut.follows.holds _).0 in
     subst (AreHeldBut n) (sym list) (held_but ks n h (sym (c.is_there.ensures ∙ ap
-    (λ (k : Held). is_some_one k.state.members) c.get.ensures) ∙ not_true c.is_there.result e) c.requires.held)
+    (λ (k : ChannelView). is_some_one k.state.members) c.get.ensures) ∙ not_true c.is_there.result e) c.requires.held)
 
 pub returns-clause-held : goal.returns-clause-held
 returns-clause-held c = λ e.
@@ -72,4 +72,4 @@ returns-clause-held c = λ e.
     let list = now_list a.channels.entries _ ks c.args.key.now n x h c.requires.key c.self.invariant view
     c.in-Some.ensures.value (c.get_mut.follows.holds _).0 in
     subst AreHeld (sym list) (held_with ks n h (sym (c.is_there.ensures ∙ ap
-    (λ (k : Held). is_some_one k.state.members) c.get.ensures) ∙ not_false c.is_there.result e) c.requires.held)
+    (λ (k : ChannelView). is_some_one k.state.members) c.get.ensures) ∙ not_false c.is_there.result e) c.requires.held)

@@ -1,7 +1,7 @@
 use Rattle.std.proofs.Common.{◌≡◌, true, Some, None, List, slice_get, arith, sym, ap, ◌∙◌, subst}
 use Rattle.casemapping.specs.Fold.{is_same}
-use Rattle.channel_state.specs.Held.{Held}
-use Rattle.channel_state.specs.State.{is_some_one, departed}
+use Rattle.channel_state.specs.Held.{ChannelView}
+use Rattle.channel_state.specs.State.{is_some_one, after_gone}
 use Rattle.roster.specs.Table.{Table}
 use Rattle.roster.specs.declared.tables.Channel.{Channel}
 use Rattle.roster.specs.Stands.{AreHeld, AreHeldBut}
@@ -33,7 +33,7 @@ returns-clause-reholds c =
     let same : is_same x.name n ≡ true = ap (λ (y : Channel). is_same y.name n) (sym it) ∙ named_so ks n p.0 p.2 in
     let list = values_at c.self.inside.channels.entries ks i (record { name = x.name; held = h }) view
     ∙ set_at_place ks i n x h c.requires.apart at same in
-    reholds_found ks _ n x h (departed c.args.session) 0 (p.2 ∙ ap (λ (y : Channel). Some y) it) list
+    reholds_found ks _ n x h (after_gone c.args.session) 0 (p.2 ∙ ap (λ (y : Channel). Some y) it) list
     c.depart.ensures.state (let r = c.depart.ensures.room in omega arith)
 
 pub returns-clause-ended : goal.returns-clause-ended
@@ -49,7 +49,7 @@ returns-clause-ended c = λ e.
     let list = values_at c.self.inside.channels.entries ks i (record { name = x.name; held = h }) view
     ∙ set_at_place ks i n x h c.requires.apart at same in
     subst (AreHeldBut n) (sym list) (held_but ks n h (sym (c.is_there.ensures ∙ ap
-    (λ (k : Held). is_some_one k.state.members) c.get.ensures) ∙ not_true c.is_there.result e) c.requires.held)
+    (λ (k : ChannelView). is_some_one k.state.members) c.get.ensures) ∙ not_true c.is_there.result e) c.requires.held)
 
 pub returns-clause-held : goal.returns-clause-held
 returns-clause-held c = λ e.
@@ -64,4 +64,4 @@ returns-clause-held c = λ e.
     let list = values_at c.self.inside.channels.entries ks i (record { name = x.name; held = h }) view
     ∙ set_at_place ks i n x h c.requires.apart at same in
     subst AreHeld (sym list) (held_with ks n h (sym (c.is_there.ensures ∙ ap
-    (λ (k : Held). is_some_one k.state.members) c.get.ensures) ∙ not_false c.is_there.result e) c.requires.held)
+    (λ (k : ChannelView). is_some_one k.state.members) c.get.ensures) ∙ not_false c.is_there.result e) c.requires.held)

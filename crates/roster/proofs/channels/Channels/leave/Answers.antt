@@ -1,10 +1,10 @@
 use Rattle.std.proofs.Common.{List, slice_get, sym, ap, ◌∙◌, subst}
 use Rattle.std.specs.Map.{values_of}
-use Rattle.channel_state.specs.State.{departed}
+use Rattle.channel_state.specs.State.{after_gone}
 use Rattle.roster.specs.Table.{Table}
 use Rattle.roster.specs.declared.tables.Channel.{Channel}
 use Rattle.roster.specs.Stands.{AreApart, AreHeldBut}
-use Rattle.roster.specs.Tables.{populated, AreKeyed}
+use Rattle.roster.specs.Tables.{with_someone, AreKeyed}
 use Rattle.roster.proofs.ChannelTable.{apart-with}
 use Rattle.roster.proofs.Keyed.{held_as, all_populated, reholds_none}
 use Rattle.roster.proofs.Places.{named_so, at_place_with, removed_at_place, keyed_removed_at}
@@ -16,7 +16,7 @@ returns-in_default-clause-departs c =
     record {
       between = ks;
       reholds = reholds_none ks c.args.name.now
-          (departed c.args.session) 0 c.in_default.ensures;
+          (after_gone c.args.session) 0 c.in_default.ensures;
       ended = sym (all_populated ks c.requires.held);
     }
 
@@ -39,7 +39,7 @@ returns-then-depart_at-clause-departs c =
       between = c.depart_at.new.self.list;
       reholds = r;
       ended = ap values_of c.take_out_at.ensures.entries
-          ∙ removed_at_place es i n (held_as p.0 h) apart at same but ∙ ap populated view;
+          ∙ removed_at_place es i n (held_as p.0 h) apart at same but ∙ ap with_someone view;
     }
 
 pub returns-else-depart_at-clause-departs : goal.returns-else-depart_at-clause-departs

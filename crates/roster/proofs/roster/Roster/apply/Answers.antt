@@ -3,7 +3,7 @@ use Rattle.std.proofs.Common.{length, slice_get, unwrap_or, Some, refl, sym, ap,
 use Rattle.std.proofs.lemmas.Grind.{common_steps}
 use Rattle.std.specs.VecDeque.{deque_len}
 use Rattle.std.specs.List.{flat_map}
-use Rattle.casemapping.specs.Fold.{folded}
+use Rattle.casemapping.specs.Fold.{name_fold}
 use Rattle.chronicle.specs.declared.why.Why.{Why}
 use Rattle.roster.specs.declared.deed.Deed.{Deed}
 use Rattle.roster.specs.declared.deed.Deed.TheVariants.{NickSet, ChannelMade, Changed, Gone}
@@ -12,7 +12,7 @@ use Rattle.roster.specs.Known.{Known}
 use Rattle.roster.specs.Table.{Table}
 use Rattle.roster.specs.LookBack.{tells_why}
 use Rattle.roster.specs.Lists.{made_name, keyed_name, is_taken, BeginWith}
-use Rattle.roster.specs.Tables.{is_plain, is_about, is_opening, heard, person_at}
+use Rattle.roster.specs.Tables.{is_plain, is_about, is_opening, after_deed, person_at}
 use Rattle.roster.specs.Tables.{why_at, Frees, room_in, Changes, holds_name}
 use Rattle.roster.proofs.MadeRoom.{spare_less}
 use Rattle.roster.proofs.Kept.{before, done, of_deed, seat_free, kept_plain}
@@ -58,7 +58,7 @@ invariant_of-self c =
     let free = subst (λ (v : Table Why). ws.room - 1 ≤ v.room) same c.hear.ensures.room in
     let qs = c.tell.new.self in
     let told = subst (λ (x : Deed). (u : ℕ) → person_at qs.list u ≡ cond (is_about u x)
-    (heard x (person_at es.list u)) (person_at es.list u)) (sym is) c.tell.ensures.people in (
+    (after_deed x (person_at es.list u)) (person_at es.list u)) (sym is) c.tell.ensures.people in (
       done d d refl fs ds qs vs hs ks sp fo _ _ c.apply.ensures c.apply-2.ensures
           (kept_plain es ws hs ks sp fo fs (drop 1 ds) d qs vs p b told c.tell.ensures.room heard_why many free),
       listed_after d d refl fs ds first es.list ns qs.list ns _ _ c.self.invariant.0.next
@@ -92,10 +92,10 @@ invariant_of-self-in-Nick c =
     let qs = c.rename-before.new.self in let mid = c.give_back.new.self in let ls = c.take.new.nicks in
     let freed = subst (Frees hs.list mid.list) (c.rename-before.ensures.nick ∙ ap
     (λ (p : Person). p.nick) (b.people.people t)) c.give_back.ensures.freed in
-    let taken = c.take.ensures.taken (folded n)
-    (first_copy (folded n) (flat_map keyed_name (drop 1 ds)) fo b.room.keys) in
+    let taken = c.take.ensures.taken (name_fold n)
+    (first_copy (name_fold n) (flat_map keyed_name (drop 1 ds)) fo b.room.keys) in
     let left = subst (BeginWith (flat_map keyed_name (drop 1 ds))) (sym c.take.ensures.keys)
-    (later_copies (folded n) (flat_map keyed_name (drop 1 ds)) fo b.room.keys) in (
+    (later_copies (name_fold n) (flat_map keyed_name (drop 1 ds)) fo b.room.keys) in (
       done d e is fs ds qs vs ls ks sp c.take.new.keys.items _ _ c.apply.ensures c.apply-2.ensures
           (kept_renamed es ws hs ks sp fo fs (drop 1 ds) t n qs vs mid ls c.take.new.keys.items
           b c.rename-before.ensures.people c.rename-before.ensures.room why count free freed
@@ -142,7 +142,7 @@ invariant_of-self-in-NewChannel c =
     let count = c.hear.ensures.count ∙ ap (λ (x : Deed). length ws.list + cond (is_opening x) 1 0) is in
     let qs = c.join_made.new.people in let ms = c.make.new.channels in
     let left = subst (BeginWith (flat_map keyed_name (drop 1 ds))) (sym c.make.ensures.keys)
-    (later_copies (folded n) (flat_map keyed_name (drop 1 ds)) fo b.room.keys) in
+    (later_copies (name_fold n) (flat_map keyed_name (drop 1 ds)) fo b.room.keys) in
     let rest = subst (BeginWith (flat_map made_name (drop 1 ds))) (sym c.join_made.ensures.copies)
     (later_copies n (flat_map made_name (drop 1 ds)) ns l.copies) in (
       done d e is fs ds qs vs hs ms c.make.new.spare.items c.make.new.keys.items _ _ c.apply.ensures c.apply-2.ensures
@@ -208,7 +208,7 @@ invariant_of-self-in-Channel c =
     let qs = c.reseat.new.people in let ms = c.change.new.channels in
     let changes = subst (λ (m : List ℕ). Changes ks.list ms.list m x) c.as_slice.ensures c.change.ensures.changes in
     let left = subst (BeginWith (flat_map keyed_name (drop 1 ds))) (sym c.change.ensures.keys)
-    (later_copies (folded n) (flat_map keyed_name (drop 1 ds)) fo b.room.keys) in (
+    (later_copies (name_fold n) (flat_map keyed_name (drop 1 ds)) fo b.room.keys) in (
       done d e is fs ds qs vs hs ms sp c.change.new.keys.items _ _ c.apply.ensures c.apply-2.ensures
           (kept_changed es ws hs ks sp fo fs
           (drop 1 ds) n x qs vs ms c.change.new.keys.items b c.reseat.ensures.people c.reseat.ensures.room why

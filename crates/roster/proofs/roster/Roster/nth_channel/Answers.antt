@@ -1,7 +1,7 @@
 use Rattle.std.proofs.Common.{arith, ◌≡◌, Some, None, slice_get, sym, ap, ◌∙◌}
 use Rattle.std.proofs.lemmas.Grind.{common_steps}
 use Rattle.std.specs.Option.{option_map, option_map_or}
-use Rattle.channel_state.specs.Held.{Held}
+use Rattle.channel_state.specs.Held.{ChannelView}
 use Rattle.channel_state.specs.State.{nothing}
 use Rattle.roster.specs.declared.tables.Channel.{Channel}
 use Rattle.roster.specs.Known.{Known}
@@ -34,7 +34,8 @@ returns-in-Some-clause-state c =
     let it : slice_get r.channels.list i ≡ Some k = grind (arith, common_steps) in
     let found : channel_of r.channels.list k.name ≡ Some k = owned_at r.channels.list r.channels.list i k
     (owned r.channels.list c.self.invariant.0.channels.apart) it in
-    ap (λ (h : Held). h.state) c.get.ensures ∙ sym (ap (λ (f : Known). state f.facts k.name) (sym c.self.view_is)
+    ap (λ (h : ChannelView). h.state) c.get.ensures
+    ∙ sym (ap (λ (f : Known). state f.facts k.name) (sym c.self.view_is)
     ∙ sym (c.self.invariant.0.channels.states k.name) ∙ ap
     (λ o. option_map_or (λ (x : Channel). x.held.state) o nothing) found)
 

@@ -3,7 +3,7 @@ use Rattle.std.proofs.lemmas.Grind.{common_steps}
 use Rattle.std.specs.List.{flat_map}
 use Rattle.chronicle.specs.declared.why.Why.{Why}
 use Rattle.roster.specs.declared.deed.Deed.{Deed}
-use Rattle.roster.specs.declared.stock.Stock.{Stock}
+use Rattle.roster.specs.declared.preallocated.Stock.{Stock}
 use Rattle.roster.specs.declared.tables.Card.{Card}
 use Rattle.roster.specs.Known.{Known}
 use Rattle.roster.specs.Legal.{AreNext}

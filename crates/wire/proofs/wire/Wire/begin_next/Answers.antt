@@ -3,15 +3,15 @@ use Rattle.std.specs.Io.KnownBytes.{append_known}
 use Rattle.deliveries.specs.declared.item.Item.{Item}
 use Rattle.deliveries.specs.Text.{delivery_text}
 use Rattle.wire.specs.Gathering.{gathered_contents}
-use Rattle.wire.specs.declared.begun.Begun.{Begun}
-use Rattle.wire.specs.declared.gathered.Gathered.{Gathered}
+use Rattle.wire.specs.declared.item_write.ItemWrite.{ItemWrite}
+use Rattle.wire.specs.declared.write_buffer.WriteBuffer.{WriteBuffer}
 use Rattle.wire.specs.declared.stream.Stream.{Stream}
 use Rattle.wire.specs.Wired.{Wired, rest_of, is_last, ends, GoesOut}
 use Rattle.wire.proofs.Going.{ends_more, goes_none, goes_whole, none_left, one_more}
 use Rattle.wire.proofs.wire.Wire.begin_next.Goals as goal
 
 -- the item's text is all that is left
-begun_out : (host : List ℕ) (b : Begun) (x : Item) (old new : Option (List ℕ)) → b.item ≡ x → b.count ≡ 0
+begun_out : (host : List ℕ) (b : ItemWrite) (x : Item) (old new : Option (List ℕ)) → b.item ≡ x → b.count ≡ 0
     → new ≡ old → GoesOut old new (delivery_text x.delivery host) (rest_of host (Some b))
 begun_out host b x old new item none same =
     let fresh : delivery_text x.delivery host ≡ rest_of host (Some b) =
@@ -20,7 +20,7 @@ begun_out host b x old new item none same =
     subst (λ (l : List ℕ). GoesOut old new (delivery_text x.delivery host) l) fresh
     (goes_none old new (delivery_text x.delivery host) same)
 
-same_octets : {T : Type 0} (contents : T → Option (List ℕ)) (old new : Gathered T) → new.stream ≡ old.stream
+same_octets : {T : Type 0} (contents : T → Option (List ℕ)) (old new : WriteBuffer T) → new.stream ≡ old.stream
     → new.waiting.items ≡ old.waiting.items → gathered_contents contents new ≡ gathered_contents contents old
 same_octets contents old new stream waiting =
     ap (λ s. append_known (contents s.inner) new.waiting.items) stream

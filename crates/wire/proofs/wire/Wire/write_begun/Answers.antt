@@ -4,18 +4,18 @@ use Rattle.deliveries.specs.declared.item.Item.{Item}
 use Rattle.wire.specs.Causes.{HasCause}
 use Rattle.wire.specs.Gathering.{gathered_contents}
 use Rattle.wire.specs.Wired.{Wired, texts, newest_text, rest_of, GoesOut, LastIsWhole}
-use Rattle.wire.specs.declared.begun.Begun.{Begun}
+use Rattle.wire.specs.declared.item_write.ItemWrite.{ItemWrite}
 use Rattle.wire.proofs.Going.{goes_on, tail_on}
 use Rattle.wire.proofs.wire.Wire.write_begun.Goals as goal
 
 -- of a wire without a fault nothing of a last item was written
-not_begun : (broken : Bool) (faults : ℕ) (begun : Option Begun) (x : Begun) → faults ≡ 0
+not_begun : (broken : Bool) (faults : ℕ) (begun : Option ItemWrite) (x : ItemWrite) → faults ≡ 0
     → (broken ≡ true → 0 < faults) → (broken ≡ false → LastIsWhole begun) → begun ≡ Some x → LastIsWhole (Some x)
 not_begun true faults begun x none bad good is = let more = bad refl in absurd (omega (arith, none, more))
 not_begun false faults begun x none bad good is = subst LastIsWhole is (good refl)
 
 -- more of the newest item went out: how all stands then
-further : (host lent : List ℕ) (a b c : Option (List ℕ)) (since : List Item) (begun : Option Begun) (x : Begun)
+further : (host lent : List ℕ) (a b c : Option (List ℕ)) (since : List Item) (begun : Option ItemWrite) (x : ItemWrite)
     (left : List ℕ) → lent ≡ host → begun ≡ Some x → GoesOut a b (texts host since) (rest_of host begun)
     → ((n : ℕ) × (rest_of host begun ≡ drop n (newest_text host since)))
     → GoesOut b c (rest_of lent (Some x)) left
@@ -30,8 +30,8 @@ further host lent a b c since begun x left same is before tail now =
     )
 
 -- the same where some of it is left
-further_rest : (host lent : List ℕ) (a b c : Option (List ℕ)) (since : List Item) (begun : Option Begun) (x y : Begun)
-    → lent ≡ host → begun ≡ Some x → GoesOut a b (texts host since) (rest_of host begun)
+further_rest : (host lent : List ℕ) (a b c : Option (List ℕ)) (since : List Item) (begun : Option ItemWrite)
+    (x y : ItemWrite) → lent ≡ host → begun ≡ Some x → GoesOut a b (texts host since) (rest_of host begun)
     → ((n : ℕ) × (rest_of host begun ≡ drop n (newest_text host since)))
     → GoesOut b c (rest_of lent (Some x)) (rest_of lent (Some y)) → GoesOut a c (texts host since)
     (rest_of host (Some y)) × ((n : ℕ) × (rest_of host (Some y) ≡ drop n (newest_text host since)))

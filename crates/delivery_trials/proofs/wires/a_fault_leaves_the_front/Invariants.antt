@@ -1,5 +1,0 @@
-use Rattle.delivery_trials.proofs.wires.a_fault_leaves_the_front.Given as goal
-
--- the register that was just made
-abbrev pub ghosts-is_front_at : goal.ghosts-is_front_at
-ghosts-is_front_at g a = record { table = a.register.table }

@@ -1,5 +1,0 @@
-use Rattle.delivery_trials.proofs.wires.all_goes_out_in_order.Given as goal
-
--- the register that was just made
-abbrev pub ghosts-goes_out : goal.ghosts-goes_out
-ghosts-goes_out g a = record { table = a.register.table }

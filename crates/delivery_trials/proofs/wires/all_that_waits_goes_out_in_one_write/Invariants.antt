@@ -1,5 +1,0 @@
-use Rattle.delivery_trials.proofs.wires.all_that_waits_goes_out_in_one_write.Given as goal
-
--- the register that was just made
-abbrev pub ghosts-writes_for : goal.ghosts-writes_for
-ghosts-writes_for g a = record { table = a.register.table }

@@ -1,5 +1,0 @@
-use Rattle.hall_trials.proofs.threads.four_threads.Given as goal
-
--- the register that was just made
-abbrev pub ghosts-meet_in : goal.ghosts-meet_in
-ghosts-meet_in g a = record { table = a.register.table }

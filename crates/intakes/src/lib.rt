@@ -1,6 +1,0 @@
-//! What is read of a session's input and isn't done: one read at a time, cut into lines.
-#![tactic(auto)]
-
-mod intake;
-
-pub use intake::{Intake, Unread};

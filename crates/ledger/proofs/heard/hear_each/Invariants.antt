@@ -1,7 +1,0 @@
-use Rattle.std.proofs.Common.{◌≡◌, ◌++◌, map, take}
-use Rattle.ledger.specs.Heard.{hearing_of}
-use Rattle.ledger.proofs.heard.hear_each.Given as goal
-
-abbrev pub invariant-loop-hearer : goal.invariant-loop-hearer
-invariant-loop-hearer l = l.heard.items ≡ l.fn.heard.items
-    ++ map (hearing_of l.roster.facts l.line) (take l.hearer-index l.hearers)

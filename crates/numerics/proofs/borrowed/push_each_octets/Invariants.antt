@@ -1,8 +1,0 @@
-use Rattle.std.proofs.Common.{◌≡◌, ◌∷◌, ◌++◌, map, take}
-use Rattle.std.specs.List.{flat_map}
-use Rattle.numerics.specs.Numerics.{shown}
-use Rattle.numerics.proofs.borrowed.push_each_octets.Given as goal
-
-abbrev pub invariant-loop-word : goal.invariant-loop-word
-invariant-loop-word l = l.line.items ≡ l.fn.line.items ++ flat_map
-    (λ w. 32 ∷ w) (map shown (take l.word-index l.words))

@@ -1,0 +1,8 @@
+use Rattle.std.proofs.Common.{◌≡◌, ◌∷◌, ◌++◌, map, take}
+use Rattle.std.specs.List.{flat_map}
+use Rattle.numerics.specs.Numerics.{middle_of}
+use Rattle.numerics.proofs.row_lines.push_each_octets.Given as goal
+
+abbrev pub invariant-loop-word : goal.invariant-loop-word
+invariant-loop-word l = l.line.items ≡ l.fn.line.items ++ flat_map
+    (λ w. 32 ∷ w) (map middle_of (take l.word-index l.words))

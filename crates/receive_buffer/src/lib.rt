@@ -1,0 +1,6 @@
+//! What is read of a session's input and isn't done: one read at a time, cut into lines.
+#![tactic(auto)]
+
+mod buffer;
+
+pub use buffer::{ReceiveBuffer, Unread};

@@ -1,5 +1,0 @@
-use Rattle.roster.proofs.MadeRoom.{alike_refl}
-use Rattle.roster.proofs.room.reserve_for.Goals as goal
-
-pub returns-in-None-clause-alike : goal.returns-in-None-clause-alike
-returns-in-None-clause-alike c = alike_refl c.args.channels.now.list

@@ -1,9 +1,0 @@
-//! Tests of `halld`: readers and writers that give or take little, or fail. What a script says stands in `test_talks`.
-#![tactic(auto)]
-
-#[cfg(test)]
-mod again;
-#[cfg(test)]
-mod streams;
-
-fn main() {}

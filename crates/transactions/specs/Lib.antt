@@ -1,0 +1,12 @@
+pub mod Effects
+pub mod Lines
+pub mod Hearers
+pub mod Replies
+pub mod Targets
+pub mod TransactionView
+pub mod Denials
+pub mod Seen
+pub mod Look
+pub mod Tells
+pub mod Words
+pub mod Verdicts
