@@ -22,6 +22,8 @@ pub struct FlushList {
     sessions: SmallVec<SessionId, 2>,
     all: bool,
     records: usize,
+    // How many stood in the list when the newest record began: it tells nobody twice.
+    known: usize,
     // Where the newest record is in the list: behind the last that it told again.
     place: usize,
 }
@@ -45,6 +47,7 @@ impl FlushList {
             sessions: SmallVec::new(alloc),
             all: false,
             records: 0,
+            known: 0,
             place: 0,
         }
     }
@@ -56,16 +59,21 @@ impl FlushList {
         ensures records { self.old.records ≤ self.new.records }
     {
         self.records = self.records.saturating_add(1);
+        self.known = self.sessions.len();
         self.place = 0;
-        let _ = self.sessions.reserve(1);
+        if self.sessions.capacity() <= self.sessions.len() {
+            let _ = self.sessions.reserve(1);
+        }
     }
 
-    /// Where a session stands in the list, if that is where the newest record is or little behind.
+    /// Where a session stands in the list, if that is where the newest record is or little behind, among those of the
+    /// records before.
     fn next_place(&self, session: SessionId) -> Option<usize>
         ensures { IfSome result (λ _. is_listed self.now session ≡ true) }
     {
         let sessions = self.sessions.as_slice();
-        let end = sessions.len().min(self.place.saturating_add(AHEAD));
+        let most = sessions.len().min(self.known);
+        let end = most.min(self.place.saturating_add(AHEAD));
         for place in self.place..end {
             if sessions[place] == session {
                 return Some(place);
@@ -135,6 +143,7 @@ impl FlushList {
         self.sessions.clear();
         self.all = false;
         self.records = 0;
+        self.known = 0;
         self.place = 0;
     }
 }

@@ -87,6 +87,25 @@ fn entry_at<V>(map: &IndexMap<u64, V>, place: usize, session: SessionId) -> Opti
     }
 }
 
+/// The place of a session's entry, searched for by its number. Few look-ups come here, so it isn't made a part of them.
+#[inline(never)]
+fn place_by_number<V>(map: &IndexMap<u64, V>, session: SessionId) -> Option<usize>
+    ensures there { IfSome result (IsPlace map.now.entries session) }
+    ensures absent { result ≡ None → lookup (nat_eq session) map.now.entries ≡ None }
+{
+    let (place, _, _) = map.get_full(&session.number())?;
+    Some(place)
+}
+
+/// The entry of a session and its place, searched for by its number, as `place_by_number` does.
+#[inline(never)]
+fn entry_by_number<V>(map: &IndexMap<u64, V>, session: SessionId) -> Option<(usize, &V)>
+    ensures { option_map (λ r. r.1.now) result ≡ lookup (nat_eq session) map.now.entries }
+{
+    let (place, _, value) = map.get_full(&session.number())?;
+    Some((place, value))
+}
+
 /// The place of a session's entry: where it was put last, if it is still there, and else by its number.
 pub(crate) fn place_in<V>(
     map: &IndexMap<u64, V>,
@@ -100,8 +119,7 @@ pub(crate) fn place_in<V>(
     if entry_at(map, place, session).is_some() {
         return Some(place);
     }
-    let (place, _, _) = map.get_full(&session.number())?;
-    Some(place)
+    place_by_number(map, session)
 }
 
 /// The place of a session's entry: at a guess, if it is there, and else as `place_in` finds it.
@@ -132,8 +150,7 @@ pub(crate) fn find_at<'a, V>(
     if let Some(value) = entry_at(map, place, session) {
         return Some((place, value));
     }
-    let (place, _, value) = map.get_full(&session.number())?;
-    Some((place, value))
+    entry_by_number(map, session)
 }
 
 /// The entry of a session.

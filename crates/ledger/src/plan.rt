@@ -249,6 +249,9 @@ fn plan_shown(by: &Planning<'_>, shown: Vec<ShownLine>) -> Result<VecDeque<Place
         (length by.now.seats.now)) }
 {
     let mut shown = shown;
+    if shown.is_empty() {
+        return Ok(VecDeque::new(by.alloc));
+    }
     if shown.len() != 1 {
         return plan_lines(by, shown);
     }

@@ -167,9 +167,18 @@ impl Mailbox {
         }
     }
 
-    /// Takes those for whom something is left to be written, and leaves an empty list.
+    /// Takes those for whom something is left to be written, and leaves the other list, which is empty. Where there is
+    /// nobody nothing is moved.
     pub(crate) fn swap_left<R: Wait>(&self, rt: &R, other: &mut WriteQueue) {
-        mem::swap(&mut *self.left.lock(rt), other);
+        let mut left = self.left.lock(rt);
+        if !left.is_empty() {
+            mem::swap(&mut *left, other);
+        }
+    }
+
+    /// Whether something was left.
+    pub(crate) fn has_mail<R: Wait>(&self, rt: &R) -> bool {
+        !self.mail.lock(rt).is_empty()
     }
 
     /// Takes what was left, and leaves an empty list.

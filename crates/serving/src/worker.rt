@@ -128,8 +128,13 @@ impl<L: Naming, R: Wait + Clock + Copy + Drop, G: Gate, C: crate::Clock> Worker<
         self.places.free(at);
     }
 
-    /// Does what others left, and answers whether there was anything.
+    /// Does what others left, and answers whether there was anything. Mostly there is nothing, and nothing is moved.
     fn do_mail(&mut self) -> bool {
+        self.context.post.has_mail(self.context.rt) && self.do_all_mail()
+    }
+
+    /// Does what others left, and answers whether that was more than who connected.
+    fn do_all_mail(&mut self) -> bool {
         let mut mail = self.context.take_mail();
         let is_any = mail.is_all || !mail.calls.is_empty();
         for at in mail.calls.iter() {

@@ -2,11 +2,12 @@
 use super::connection::{ClientOutput, Connection};
 use super::{Connections, PAUSE};
 use chronicle::{Moment, SessionId};
+use indexmap::IndexMap;
 use session_io::book::{FlushList, Naming};
 use session_io::wire::Flow;
 use session_io::{Gate, Host, Pumped, Server, Sockets};
-use std::sync::Wait;
 use std::sync::atomic::Ordering;
+use std::sync::{Arc, Wait};
 use std::thread;
 use std::time::{Clock, Duration};
 
@@ -32,6 +33,23 @@ pub(crate) struct ThreadHost<
     pub(crate) worker: usize,
     /// Fewer records than these of which a session is told may be left to its worker to write.
     pub(crate) burst: usize,
+}
+
+/// The connection of a session, if it has one, and where that is in the table. Sessions that are told follow one
+/// another by their numbers, as connections mostly do in the table, so it is looked for at a place first.
+fn find_near<L: Naming, R: Wait + Copy + Drop>(
+    table: &IndexMap<u64, Arc<Connection<L, R>>>,
+    session: SessionId,
+    near: usize,
+) -> Option<(usize, &Connection<L, R>)> {
+    let number = session.number();
+    if let Some((found, connection)) = table.get_index(near) {
+        if *found == number {
+            return Some((near, &**connection));
+        }
+    }
+    let (place, _, connection) = table.get_full(&number)?;
+    Some((place, &**connection))
 }
 
 /// The server as one of its threads knows it.
@@ -106,8 +124,10 @@ impl<L: Naming, R: Wait + Clock + Copy + Drop, G: Gate, C: crate::Clock> ThreadH
     /// The table is held for all of them: no write waits for a client.
     fn write_to(&self, sessions: &[SessionId], records: usize, may_be_left: bool) {
         let connections = self.all.by_session.read(&self.all.rt);
+        let mut near = usize::MAX;
         for session in sessions {
-            if let Some(connection) = connections.get(&session.number()) {
+            if let Some((place, connection)) = find_near(&*connections, *session, near) {
+                near = place.saturating_add(1);
                 if !may_be_left || !self.is_left(connection, records) {
                     self.write_on(connection);
                 }

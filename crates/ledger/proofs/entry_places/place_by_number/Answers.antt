@@ -1,5 +1,5 @@
 use Rattle.ledger.proofs.Mapped.{place_hashed}
-use Rattle.ledger.proofs.entry_places.place_in.Goals as goal
+use Rattle.ledger.proofs.entry_places.place_by_number.Goals as goal
 
 pub returns-clause-there : goal.returns-clause-there
 returns-clause-there g c =
