@@ -87,7 +87,7 @@ fn entry_at<V>(map: &IndexMap<u64, V>, place: usize, session: SessionId) -> Opti
     }
 }
 
-/// The place of a session's entry, searched for by its number. Few look-ups come here, so it isn't made a part of them.
+/// The place of a session's entry, searched for by its number. Few look-ups come here, so it stands apart from them.
 #[inline(never)]
 fn place_by_number<V>(map: &IndexMap<u64, V>, session: SessionId) -> Option<usize>
     ensures there { IfSome result (IsPlace map.now.entries session) }
