@@ -1,4 +1,4 @@
-use Rattle.hall_tests.proofs.making.played.Given as goal
+use Rattle.hall_tests.proofs.making.play.Given as goal
 
 -- the register that was just made
 abbrev pub ghosts-played_in : goal.ghosts-played_in
