@@ -80,7 +80,7 @@ pub(crate) struct Acceptor<'a, L: Naming, R: Wait + Clock + Copy + Drop, G: Gate
     server: &'a Serving<'a, L, R, G, C>,
     listeners: &'a Listeners,
     teller: Option<&'a Teller>,
-    told: FlushList,
+    flushes: FlushList,
     /// When the last beat was, by the server's clock.
     last: i64,
     /// When it was last told what happened.
@@ -107,7 +107,7 @@ where
             server,
             listeners,
             teller,
-            told: FlushList::new(alloc),
+            flushes: FlushList::new(alloc),
             last: server.host.now().milliseconds(),
             reported: None,
         }
@@ -153,14 +153,14 @@ impl<L: Naming, R: Wait + Clock + Copy + Drop, G: Gate, C: crate::Clock> Accepto
         }
         if passed < LATE {
             self.last = now;
-            let _ = beat(self.rt, self.server, &mut self.told);
+            let _ = beat(self.rt, self.server, &mut self.flushes);
             return BEAT as u64;
         }
         // Where nobody could be pinged the next is late as well.
-        if tick(self.rt, self.server, &mut self.told).answer.is_ok() {
+        if tick(self.rt, self.server, &mut self.flushes).answer.is_ok() {
             self.last = now;
         }
-        flush(self.server, &mut self.told);
+        flush(self.server, &mut self.flushes);
         BEAT as u64
     }
 

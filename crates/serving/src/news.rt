@@ -119,11 +119,11 @@ impl Teller {
         alloc: Global,
         has_log: bool,
     ) -> Result<Option<Teller>, AllocError> {
-        let (news, told) = bounded(alloc, if has_log { EVENTS } else { FEW })?;
+        let (news, receiver) = bounded(alloc, if has_log { EVENTS } else { FEW })?;
         let (ends, end) = bounded(alloc, 1)?;
         let own = *rt;
         let started = thread::spawn(rt, move || {
-            tell_all(&own, alloc, &told);
+            tell_all(&own, alloc, &receiver);
             drop(ends);
         });
         if started.is_err() {

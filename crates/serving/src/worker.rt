@@ -58,7 +58,7 @@ pub(crate) struct Context<'a, L: Naming, R: Wait + Clock + Copy + Drop, G: Gate,
     poll: Poll,
     sendq: usize,
     pub(crate) guests: PendingHandshakes,
-    told: FlushList,
+    flushes: FlushList,
     mail: Mail,
     batch: DeferredWrites,
     /// Who connected and isn't served yet, the first first.
@@ -104,7 +104,7 @@ impl<'a, L: Naming, R: Wait + Clock + Copy + Drop, G: Gate, C: crate::Clock> Wor
                 poll,
                 sendq,
                 guests: PendingHandshakes::new(alloc),
-                told: FlushList::new(alloc),
+                flushes: FlushList::new(alloc),
                 mail: Mail::new(alloc),
                 batch: DeferredWrites::new(alloc),
                 arrivals: VecDeque::new(alloc),
@@ -162,7 +162,7 @@ impl<L: Naming, R: Wait + Clock + Copy + Drop, G: Gate, C: crate::Clock> Worker<
     fn settle(&mut self) {
         let rt = self.context.rt;
         let server = self.context.server;
-        self.context.add_told();
+        self.context.add_flushed();
         // Where the server is closed nobody waits, and nobody is told.
         let most = if server.host.all.is_closed() {
             u32::MAX
@@ -171,7 +171,7 @@ impl<L: Naming, R: Wait + Clock + Copy + Drop, G: Gate, C: crate::Clock> Worker<
         };
         let mut sweeps = most;
         for _ in rt.forever() {
-            flush(server, &mut self.context.told);
+            flush(server, &mut self.context.flushes);
             let is_any = self.do_mail();
             let left = self.context.sweep_some(sweeps);
             if !is_any && left == sweeps && self.context.closing.is_empty() {
@@ -255,10 +255,10 @@ impl<L: Naming, R: Wait + Clock + Copy + Drop, G: Gate, C: crate::Clock> Context
         mail
     }
 
-    /// The worker tells those who are listed.
-    fn add_told(&mut self) {
-        let count = self.told.sessions().len();
-        self.batch.add_told(count);
+    /// The worker has those flushed who are listed.
+    fn add_flushed(&mut self) {
+        let count = self.flushes.sessions().len();
+        self.batch.add_flushed(count);
     }
 
     /// Takes who is looked at again after a pause off the list.

@@ -218,16 +218,16 @@ impl<L: Naming, R: Wait + Clock + Copy + Drop, G: Gate, C: crate::Clock> Sockets
         }
     }
 
-    fn flush(&self, told: &FlushList) {
-        let (all, records) = (told.sessions().len(), told.records());
+    fn flush(&self, flushes: &FlushList) {
+        let (all, records) = (flushes.sessions().len(), flushes.records());
         let is_short = all <= records.saturating_mul(AT_ONCE) || self.burst <= records;
-        for (place, some) in told.sessions().chunks(ENDS).enumerate() {
+        for (place, some) in flushes.sessions().chunks(ENDS).enumerate() {
             let is_near = is_short
                 || place == 0
                 || all <= place.saturating_add(2).saturating_mul(ENDS);
             self.write_to(some, records, !is_near);
         }
-        if told.is_all() {
+        if flushes.is_all() {
             self.write_to_all();
         }
     }

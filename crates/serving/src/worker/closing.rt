@@ -82,7 +82,7 @@ impl<L: Naming, R: Wait + Clock + Copy + Drop, G: Gate, C: crate::Clock> Context
 
     /// Ends a session for this reason, where it is open.
     pub(super) fn hang(&mut self, session: SessionId, why: Why) {
-        let _ = hang(self.rt, self.server, session, why, &mut self.told);
+        let _ = hang(self.rt, self.server, session, why, &mut self.flushes);
     }
 
     /// Looks at a client: whether its session's writing is over, and so it is to be ended, by which close.
@@ -113,8 +113,15 @@ impl<L: Naming, R: Wait + Clock + Copy + Drop, G: Gate, C: crate::Clock> Context
     /// Writes what waits for a client.
     fn write(&mut self, client: &Client<L, R>, is_shut: bool) -> Wrote {
         let outlet = &client.connection.outlet;
-        let told = &mut self.told;
-        let written = write_some(self.rt, self.server, client.session, outlet, is_shut, told);
+        let flushes = &mut self.flushes;
+        let written = write_some(
+            self.rt,
+            self.server,
+            client.session,
+            outlet,
+            is_shut,
+            flushes,
+        );
         let is_fault = match &written.pumped {
             Some(pumped) => {
                 self.server.host.go_on_in_turn(&client.connection, pumped);
@@ -207,16 +214,11 @@ impl<L: Naming, R: Wait + Clock + Copy + Drop, G: Gate, C: crate::Clock> Context
             return most;
         }
         for swept in 0..most {
-            if SHOWN
-                < self
-                    .told
-                    .sessions()
-                    .len()
-                    .saturating_mul(self.told.records())
-            {
+            let (listed, records) = (self.flushes.sessions().len(), self.flushes.records());
+            if SHOWN < listed.saturating_mul(records) {
                 break;
             }
-            let SweepOutcome { answer, ended, .. } = sweep(self.rt, self.server, &mut self.told);
+            let SweepOutcome { answer, ended, .. } = sweep(self.rt, self.server, &mut self.flushes);
             match answer {
                 Ok(Some(_)) => self.note_gone(ended),
                 Ok(None) => return most.saturating_sub(swept),

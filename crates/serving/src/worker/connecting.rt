@@ -172,7 +172,7 @@ impl<L: Naming, R: Wait + Clock + Copy + Drop, G: Gate, C: crate::Clock> Context
 
     /// Opens a session for who connected, where the server takes one, whose connection is at this place.
     fn open(&self, at: usize, incoming: Incoming<R>) -> Option<Opened<L, R>> {
-        let (host, told) = host_twice(self.alloc, incoming.peer)?;
+        let (host, copy) = host_twice(self.alloc, incoming.peer)?;
         let Ok((sender, writer)) = pair(*self.rt, self.alloc, self.sendq.max(1)) else {
             return None;
         };
@@ -180,7 +180,7 @@ impl<L: Naming, R: Wait + Clock + Copy + Drop, G: Gate, C: crate::Clock> Context
         let all = self.server.host.all;
         let mut hall = self.server.hall.lock(self.rt);
         let moment = moment_in(&*hall, self.server.host.now());
-        let (session, baton, stub) = open_or_roll(&mut *hall, host, &told, moment, sender, all)?;
+        let (session, baton, stub) = open_or_roll(&mut *hall, host, &copy, moment, sender, all)?;
         all.add(session, again);
         Some(Opened {
             tokens: SessionTokens {
@@ -189,7 +189,7 @@ impl<L: Naming, R: Wait + Clock + Copy + Drop, G: Gate, C: crate::Clock> Context
                 writer,
             },
             connection,
-            host: told,
+            host: copy,
         })
     }
 

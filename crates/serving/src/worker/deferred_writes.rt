@@ -50,8 +50,8 @@ impl DeferredWrites {
         self.due = self.due.saturating_add(WRITES);
     }
 
-    /// The worker tells so many.
-    pub(crate) fn add_told(&mut self, count: usize) {
+    /// The worker has so many flushed.
+    pub(crate) fn add_flushed(&mut self, count: usize) {
         self.due = self.due.saturating_add(count);
     }
 

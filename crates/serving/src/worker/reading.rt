@@ -174,7 +174,7 @@ impl<L: Naming, R: Wait + Clock + Copy + Drop, G: Gate, C: crate::Clock> Context
         input: &mut I,
     ) -> Next {
         let mut input = CountedStream { input, count: 0 };
-        let told = &mut self.told;
+        let flushes = &mut self.flushes;
         let took = read_some(
             self.rt,
             self.server,
@@ -182,7 +182,7 @@ impl<L: Naming, R: Wait + Clock + Copy + Drop, G: Gate, C: crate::Clock> Context
             baton,
             connection,
             &mut input,
-            told,
+            flushes,
         );
         self.server.host.all.kept.add(input.count);
         took.next
