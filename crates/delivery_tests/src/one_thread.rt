@@ -27,35 +27,35 @@ fn number(item: Option<Item>) -> Option<u64> {
 }
 
 /// What is done, and what it is answered: a put why it wasn't, a take the number of an item.
-enum Step {
+enum Call {
     Put(Option<PutFault>),
     TakeFirst(Option<u64>),
     Take(Option<u64>),
 }
 
-const IN_ORDER: [Step; 8] = [
-    Step::Put(None),
-    Step::Put(None),
-    Step::Put(None),
-    Step::TakeFirst(Some(2)),
-    Step::Take(Some(3)),
-    Step::Take(Some(4)),
-    Step::Take(None),
-    Step::Take(None),
+const IN_ORDER: [Call; 8] = [
+    Call::Put(None),
+    Call::Put(None),
+    Call::Put(None),
+    Call::TakeFirst(Some(2)),
+    Call::Take(Some(3)),
+    Call::Take(Some(4)),
+    Call::Take(None),
+    Call::Take(None),
 ];
 
-const FULL: [Step; 11] = [
-    Step::Put(None),
-    Step::Put(None),
-    Step::Put(None),
-    Step::Put(None),
-    Step::Put(Some(PutFault::Full)),
-    Step::TakeFirst(Some(2)),
-    Step::Put(None),
-    Step::Put(Some(PutFault::Full)),
-    Step::Take(Some(3)),
-    Step::Take(Some(4)),
-    Step::Take(Some(5)),
+const FULL: [Call; 11] = [
+    Call::Put(None),
+    Call::Put(None),
+    Call::Put(None),
+    Call::Put(None),
+    Call::Put(Some(PutFault::Full)),
+    Call::TakeFirst(Some(2)),
+    Call::Put(None),
+    Call::Put(Some(PutFault::Full)),
+    Call::Take(Some(3)),
+    Call::Take(Some(4)),
+    Call::Take(Some(5)),
 ];
 
 /// An empty ring for four items.
@@ -67,13 +67,13 @@ fn ring<R: Abort>(rt: &R, alloc: Global) -> Feed<Ring> {
     Feed::new(alloc, ring).expect(rt, "memory")
 }
 
-/// Whether steps on a ring are answered so.
-fn are_answered_by_ring<R: Abort>(rt: &R, alloc: Global, steps: &[Step]) -> bool {
+/// Whether calls on a ring are answered so.
+fn are_answered_by_ring<R: Abort>(rt: &R, alloc: Global, calls: &[Call]) -> bool {
     let mut feed = ring(rt, alloc);
-    for step in steps {
-        let is_right = match step {
-            Step::Put(fault) => put(rt, alloc, &mut feed) == *fault,
-            Step::TakeFirst(want) | Step::Take(want) => number(feed.take()) == *want,
+    for call in calls {
+        let is_right = match call {
+            Call::Put(fault) => put(rt, alloc, &mut feed) == *fault,
+            Call::TakeFirst(want) | Call::Take(want) => number(feed.take()) == *want,
         };
         if !is_right {
             return false;
@@ -115,18 +115,18 @@ pub(crate) fn channel<R: Wait + Abort + Drop + Copy>(
     (Feed::new(alloc, sender).expect(rt, "memory"), writer)
 }
 
-/// Whether steps on a channel for four items are answered so.
+/// Whether calls on a channel for four items are answered so.
 fn are_answered_by_channel<R: Wait + Abort + Drop + Copy>(
     rt: &R,
     alloc: Global,
-    steps: &[Step],
+    calls: &[Call],
 ) -> bool {
     let (mut feed, mut writer) = channel(rt, alloc, 4);
-    for step in steps {
-        let is_right = match step {
-            Step::Put(fault) => put(rt, alloc, &mut feed) == *fault,
-            Step::TakeFirst(want) => number(writer.take(rt).ok()) == *want,
-            Step::Take(want) => number(writer.take_now(rt).ok()) == *want,
+    for call in calls {
+        let is_right = match call {
+            Call::Put(fault) => put(rt, alloc, &mut feed) == *fault,
+            Call::TakeFirst(want) => number(writer.take(rt).ok()) == *want,
+            Call::Take(want) => number(writer.take_now(rt).ok()) == *want,
         };
         if !is_right {
             return false;

@@ -9,7 +9,7 @@ use Rattle.halld.specs.declared.script.ScriptStep.{ScriptStep}
 use Rattle.halld.specs.Script.{step_of}
 use Rattle.halld.specs.Headers.{with_header, unless_none, after_line, are_good}
 use Rattle.halld.specs.Lines.{text_before, lines_of, is_step, header_by, is_bad, head_after, first_bad}
-use Rattle.halld.specs.Lines.{limits_after, Told, is_set_after, told_after, told_ahead}
+use Rattle.halld.specs.Lines.{limits_after, Check, is_set_after, check_after, check_ahead}
 
 pub continued-nil : (ls : List (List ℕ)) → text_before [] ls ≡ ls
 continued-nil [] = refl
@@ -20,28 +20,29 @@ pub continued-continued : (line : List ℕ) (b : ℕ) (ls : List (List ℕ)) →
 continued-continued line b [] = refl
 continued-continued line b (l ∷ ls) = ap (λ first. first ∷ ls) (append_assoc line (b ∷ []) l)
 
-pub line_before : (h : Option Limits) (n : ℕ) (line rest : List ℕ) → told_after h (n + 1) (line ∷ lines_of rest)
-    ≡ told_ahead h n line (10 ∷ rest)
-line_before h n line rest = ap (λ first. told_after h (n + 1) (first ∷ lines_of rest)) (sym (append-nil line))
+pub line_before : (h : Option Limits) (n : ℕ) (line rest : List ℕ) → check_after h (n + 1) (line ∷ lines_of rest)
+    ≡ check_ahead h n line (10 ∷ rest)
+line_before h n line rest = ap (λ first. check_after h (n + 1) (first ∷ lines_of rest)) (sym (append-nil line))
 
-pub line_last : (h : Option Limits) (n : ℕ) (line : List ℕ) → told_after h (n + 1) (line ∷ []) ≡ told_ahead h n line []
-line_last h n line = ap (λ first. told_after h (n + 1) (first ∷ [])) (sym (append-nil line))
+pub line_last : (h : Option Limits) (n : ℕ) (line : List ℕ) → check_after h (n + 1) (line ∷ [])
+    ≡ check_ahead h n line []
+line_last h n line = ap (λ first. check_after h (n + 1) (first ∷ [])) (sym (append-nil line))
 
 -- an LF ends a line
 pub line_ends : (h h' : Option Limits) (n n' : ℕ) (line rest : List ℕ)
-    → ((more : List (List ℕ)) → told_after h' (n' + 1) more ≡ told_after h (n + 1) (line ∷ more))
-    → told_ahead h' n' [] rest ≡ told_ahead h n line (10 ∷ rest)
-line_ends h h' n n' line rest same = ap (told_after h' (n' + 1)) (continued-nil (lines_of rest))
+    → ((more : List (List ℕ)) → check_after h' (n' + 1) more ≡ check_after h (n + 1) (line ∷ more))
+    → check_ahead h' n' [] rest ≡ check_ahead h n line (10 ∷ rest)
+line_ends h h' n n' line rest same = ap (check_after h' (n' + 1)) (continued-nil (lines_of rest))
     ∙ same (lines_of rest) ∙ line_before h n line rest
 
 -- any other octet goes into the line
 pub line_goes_on : (h : Option Limits) (n : ℕ) (line : List ℕ) (b : ℕ) (rest : List ℕ) → b ≢ 10
-    → told_ahead h n (line ++ b ∷ []) rest ≡ told_ahead h n line (b ∷ rest)
+    → check_ahead h n (line ++ b ∷ []) rest ≡ check_ahead h n line (b ∷ rest)
 line_goes_on h n line b rest no_end =
-    ap (told_after h (n + 1)) (continued-continued line b (lines_of rest)
+    ap (check_after h (n + 1)) (continued-continued line b (lines_of rest)
     ∙ ap (text_before line) (sym (cond-false _ _ _ (ne_eqb b 10 no_end))))
 
-alike : (x y : Option ℕ) (s t : Bool) → x ≡ y → s ≡ t → (let a : Told = record { bad = x; is_set = s } in a)
+alike : (x y : Option ℕ) (s t : Bool) → x ≡ y → s ≡ t → (let a : Check = record { bad = x; is_set = s } in a)
     ≡ record { bad = y; is_set = t }
 alike x y s t p q = ap (λ z. record { bad = z; is_set = s }) p ∙ ap (λ b. record { bad = y; is_set = b }) q
 
@@ -51,8 +52,8 @@ goes_on h h' n line more good is =
     ap (λ t. cond t (Some n) (first_bad (head_after h line) (n + 1) more)) good ∙ ap (λ k. first_bad k (n + 1) more) is
 
 -- an empty line
-pub empty_line : (h : Option Limits) (n : ℕ) (more : List (List ℕ)) → told_after h (n + 1) more
-    ≡ told_after h n ([] ∷ more)
+pub empty_line : (h : Option Limits) (n : ℕ) (more : List (List ℕ)) → check_after h (n + 1) more
+    ≡ check_after h n ([] ∷ more)
 empty_line None n more = refl
 empty_line (Some l) n more = refl
 
@@ -72,7 +73,7 @@ set_by (Some l) line more is = ap (λ t. are_good (cond t l (limits_after (after
 
 -- a step
 pub step_line : (h : Option Limits) (n : ℕ) (line : List ℕ) (step : ScriptStep) (more : List (List ℕ)) → step_of line
-    ≡ Some step → is_set_after h [] ≡ true → told_after None (n + 1) more ≡ told_after h n (line ∷ more)
+    ≡ Some step → is_set_after h [] ≡ true → check_after None (n + 1) more ≡ check_after h n (line ∷ more)
 step_line h n line step more is set =
     sym (alike _ _ _ _ (goes_on h None n line more (step_is_good h line step is)
     (after_step h line (ap is_some is))) (set_by h line more (ap is_some is) ∙ set))
@@ -84,7 +85,7 @@ header_is_good l k (x ∷ xs) none is = ap (λ o. is_none o && is_none (with_hea
 
 -- a header
 pub header_line : (l k : Limits) (n : ℕ) (line : List ℕ) (more : List (List ℕ)) → step_of line ≡ None
-    → with_header l line ≡ Some k → told_after (Some k) (n + 1) more ≡ told_after (Some l) n (line ∷ more)
+    → with_header l line ≡ Some k → check_after (Some k) (n + 1) more ≡ check_after (Some l) n (line ∷ more)
 header_line l k n line more none is =
     let after : head_after (Some l) line ≡ Some k = ap (λ t. cond t None (Some (after_line l line)))
     (ap is_some none) ∙ ap (λ o. Some (unless_none l o)) is in
@@ -98,13 +99,13 @@ bad h n line more is = ap (λ t. cond t (Some n) (first_bad (head_after h line) 
 
 -- no step, after another
 pub bad_after : (n : ℕ) (line : List ℕ) (more : List (List ℕ)) → 0 < length line → step_of line ≡ None
-    → (told_after None n (line ∷ more)).bad ≡ Some n
+    → (check_after None n (line ∷ more)).bad ≡ Some n
 bad_after n [] more some none = absurd (omega arith)
 bad_after n (x ∷ xs) more some none = bad None n (x ∷ xs) more (ap (λ o. is_none o && true) none)
 
 -- no step and no header
 pub bad_before : (l : Limits) (n : ℕ) (line : List ℕ) (more : List (List ℕ)) → 0 < length line → step_of line ≡ None
-    → with_header l line ≡ None → (told_after (Some l) n (line ∷ more)).bad ≡ Some n
+    → with_header l line ≡ None → (check_after (Some l) n (line ∷ more)).bad ≡ Some n
 bad_before l n [] more some none no_header = absurd (omega arith)
 bad_before l n (x ∷ xs) more some none no_header = bad (Some l) n (x ∷ xs) more
     (ap (λ o. is_none o && is_none (with_header l (x ∷ xs))) none ∙ ap is_none no_header)

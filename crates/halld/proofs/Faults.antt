@@ -15,11 +15,11 @@ use Rattle.registration.specs.Settings.{is_motd}
 use Rattle.interleave.specs.Limits.{IsWellSet}
 use Rattle.halld.specs.Script.{step_of}
 use Rattle.halld.specs.Headers.{motd_of, settings_of, is_within, are_good}
-use Rattle.halld.specs.Lines.{lines_of, Told, is_set_after, told_after, told_ahead}
+use Rattle.halld.specs.Lines.{lines_of, Check, is_set_after, check_after, check_ahead}
 use Rattle.halld.specs.Faults.{IsFaultOf, IsGood, IsOutside}
 use Rattle.halld.proofs.Ahead.{line_before, line_last, set_by, step_line}
 
-pub outside : (t : Told) (e : PlayFault) → IsOutside e → IsFaultOf t e
+pub outside : (t : Check) (e : PlayFault) → IsOutside e → IsFaultOf t e
 outside t (BadLine n) is = absurd is
 outside t BadSettings is = absurd is
 outside t ReadFailed is = tt
@@ -27,12 +27,12 @@ outside t WriteFailed is = tt
 outside t Memory is = tt
 
 -- a fault from outside is one of any script
-pub from_outside : {T : Type 0} (r : Result T PlayFault) (t : Told) → IfErr r IsOutside → IfErr r (IsFaultOf t)
+pub from_outside : {T : Type 0} (r : Result T PlayFault) (t : Check) → IfErr r IsOutside → IfErr r (IsFaultOf t)
 from_outside (Ok v) t is = tt
 from_outside (Err e) t is = outside t e is
 
 setting : (h : Option Limits) (n : ℕ) (line : List ℕ) (step : ScriptStep) (more : List (List ℕ)) (e : PlayFault)
-    → step_of line ≡ Some step → IsFaultOf (told_after h 1 []) e → IsFaultOf (told_after h n (line ∷ more)) e
+    → step_of line ≡ Some step → IsFaultOf (check_after h 1 []) e → IsFaultOf (check_after h n (line ∷ more)) e
 setting h n line step more (BadLine k) is fault = absurd (cc)
 setting h n line step more BadSettings is fault = set_by h line more (ap is_some is) ∙ fault
 setting h n line step more ReadFailed is fault = tt
@@ -41,42 +41,42 @@ setting h n line step more Memory is fault = tt
 
 -- where the line is a step
 pub at_step : {T : Type 0} (r : Result T PlayFault) (h : Option Limits) (n : ℕ) (line : List ℕ) (step : ScriptStep)
-    → step_of line ≡ Some step → IfErr r (IsFaultOf (told_after h 1 []))
-    → IfErr r (λ e. (more : List (List ℕ)) → IsFaultOf (told_after h n (line ∷ more)) e)
+    → step_of line ≡ Some step → IfErr r (IsFaultOf (check_after h 1 []))
+    → IfErr r (λ e. (more : List (List ℕ)) → IsFaultOf (check_after h n (line ∷ more)) e)
 at_step (Ok v) h n line step is fault = tt
 at_step (Err e) h n line step is fault = λ more. setting h n line step more e is fault
 
 pub at_end_of_line : {T : Type 0} (r : Result T PlayFault) (h : Option Limits) (n : ℕ) (line : List ℕ) (b : ℕ)
-    → b ≡ 10 → IfErr r (λ e. (more : List (List ℕ)) → IsFaultOf (told_after h (n + 1) (line ∷ more)) e)
-    → IfErr r (λ e. (rest : List ℕ) → IsFaultOf (told_ahead h n line (b ∷ rest)) e)
+    → b ≡ 10 → IfErr r (λ e. (more : List (List ℕ)) → IsFaultOf (check_after h (n + 1) (line ∷ more)) e)
+    → IfErr r (λ e. (rest : List ℕ) → IsFaultOf (check_ahead h n line (b ∷ rest)) e)
 at_end_of_line (Ok v) h n line b lf is = tt
 at_end_of_line (Err e) h n line b lf is = λ rest. subst (λ x. IsFaultOf x e)
-    (line_before h n line rest ∙ ap (λ c. told_ahead h n line (c ∷ rest)) (sym lf)) (is (lines_of rest))
+    (line_before h n line rest ∙ ap (λ c. check_ahead h n line (c ∷ rest)) (sym lf)) (is (lines_of rest))
 
 pub at_end : (h : Option Limits) (n : ℕ) (line : List ℕ) (e : PlayFault)
-    → ((more : List (List ℕ)) → IsFaultOf (told_after h (n + 1) (line ∷ more)) e)
-    → IsFaultOf (told_ahead h n line []) e
+    → ((more : List (List ℕ)) → IsFaultOf (check_after h (n + 1) (line ∷ more)) e)
+    → IsFaultOf (check_ahead h n line []) e
 at_end h n line e is = subst (λ x. IsFaultOf x e) (line_last h n line) (is [])
 
 -- what a step's line tells is told from there on
 pub after_step : {T : Type 0} (r : Result T PlayFault) (h h' : Option Limits) (n n' : ℕ) (line : List ℕ)
     (step : ScriptStep) → step_of line ≡ Some step → n' ≡ n → OnOk r (h' ≡ None) → OnOk r (is_set_after h [] ≡ true)
-    → OnOk r ((more : List (List ℕ)) → told_after h' (n' + 1) more ≡ told_after h n (line ∷ more))
+    → OnOk r ((more : List (List ℕ)) → check_after h' (n' + 1) more ≡ check_after h n (line ∷ more))
 after_step (Ok v) h h' n n' line step is same none set =
-    λ more. ap (λ x. told_after x (n' + 1) more) none ∙ ap (λ k. told_after None (k + 1) more) same
+    λ more. ap (λ x. check_after x (n' + 1) more) none ∙ ap (λ k. check_after None (k + 1) more) same
     ∙ step_line h n line step more is set
 after_step (Err e) h h' n n' line step is same none set = tt
 
 -- after the last line it is known whether the settings are good
 pub good_at_end : {T : Type 0} (r : Result T PlayFault) (h h' : Option Limits) (n n' : ℕ) (line : List ℕ)
-    → ((more : List (List ℕ)) → told_after h' (n' + 1) more ≡ told_after h (n + 1) (line ∷ more))
-    → OnOk r (is_set_after h' [] ≡ true) → OnOk r (IsGood (told_ahead h n line []))
+    → ((more : List (List ℕ)) → check_after h' (n' + 1) more ≡ check_after h (n + 1) (line ∷ more))
+    → OnOk r (is_set_after h' [] ≡ true) → OnOk r (IsGood (check_ahead h n line []))
 good_at_end (Ok v) h h' n n' line same set = subst IsGood (same [] ∙ line_last h n line) (refl, set)
 good_at_end (Err e) h h' n n' line same set = tt
 
 fault_after : (h h' : Option Limits) (n n' : ℕ) (line : List ℕ) (e : PlayFault)
-    → ((more : List (List ℕ)) → told_after h' (n' + 1) more ≡ told_after h (n + 1) (line ∷ more))
-    → IsFaultOf (told_after h' 1 []) e → IsFaultOf (told_ahead h n line []) e
+    → ((more : List (List ℕ)) → check_after h' (n' + 1) more ≡ check_after h (n + 1) (line ∷ more))
+    → IsFaultOf (check_after h' 1 []) e → IsFaultOf (check_ahead h n line []) e
 fault_after h h' n n' line (BadLine k) same fault = absurd (cc)
 fault_after h h' n n' line BadSettings same fault = ap
     (λ t. t.is_set) (sym (line_last h n line) ∙ sym (same [])) ∙ fault
@@ -85,13 +85,13 @@ fault_after h h' n n' line WriteFailed same fault = tt
 fault_after h h' n n' line Memory same fault = tt
 
 pub fault_at_end : {T : Type 0} (r : Result T PlayFault) (h h' : Option Limits) (n n' : ℕ) (line : List ℕ)
-    → ((more : List (List ℕ)) → told_after h' (n' + 1) more ≡ told_after h (n + 1) (line ∷ more))
-    → IfErr r (IsFaultOf (told_after h' 1 [])) → IfErr r (IsFaultOf (told_ahead h n line []))
+    → ((more : List (List ℕ)) → check_after h' (n' + 1) more ≡ check_after h (n + 1) (line ∷ more))
+    → IfErr r (IsFaultOf (check_after h' 1 [])) → IfErr r (IsFaultOf (check_ahead h n line []))
 fault_at_end (Ok v) h h' n n' line same fault = tt
 fault_at_end (Err e) h h' n n' line same fault = fault_after h h' n n' line e same fault
 
 -- a fault at an octet
-pub at_octet : (block : List ℕ) (i : ℕ) (ahead after : List ℕ → Told) (e : PlayFault)
+pub at_octet : (block : List ℕ) (i : ℕ) (ahead after : List ℕ → Check) (e : PlayFault)
     → i < length block → ((rest : List ℕ) → after (drop i block ++ rest) ≡ ahead (block ++ rest))
     → ((rest : List ℕ) → IsFaultOf (after (get_or block i 0 ∷ rest)) e) → (rest : List ℕ)
     → IsFaultOf (ahead (block ++ rest)) e
@@ -100,7 +100,7 @@ at_octet block i ahead after e lt same is rest =
     (is (drop (i + 1) block ++ rest))
 
 -- one octet on
-pub octet_on : (block : List ℕ) (i : ℕ) (ahead before after : List ℕ → Told) → i < length block
+pub octet_on : (block : List ℕ) (i : ℕ) (ahead before after : List ℕ → Check) → i < length block
     → ((rest : List ℕ) → before (drop i block ++ rest) ≡ ahead (block ++ rest))
     → ((rest : List ℕ) → after rest ≡ before (get_or block i 0 ∷ rest)) → (rest : List ℕ)
     → after (drop (i + 1) block ++ rest) ≡ ahead (block ++ rest)

@@ -7,7 +7,7 @@ use Rattle.std.specs.Io.KnownBytes.{Consumes, Keeps, IsAtEnd, Appends}
 use Rattle.halld.specs.declared.entry.PlayFault.{PlayFault}
 use Rattle.halld.specs.declared.entry.PlayFault.TheVariants.{WriteFailed}
 use Rattle.halld.specs.Headers.{default_limits}
-use Rattle.halld.specs.Lines.{text_before, lines_of, limits_after, Told, told_of, told_after, told_ahead}
+use Rattle.halld.specs.Lines.{text_before, lines_of, limits_after, Check, check_of, check_after, check_ahead}
 use Rattle.halld.specs.declared.header.Limits.{Limits}
 use Rattle.halld.specs.declared.reader.Stage.{Stage}
 use Rattle.halld.specs.declared.reader.Stage.TheVariants.{Head, Steps}
@@ -16,26 +16,26 @@ use Rattle.halld.specs.Printed.{steps_of, start_of, ArePerformed, PrintsAhead, I
 use Rattle.halld.specs.Faults.{IsFaultOf}
 use Rattle.halld.proofs.Ahead.{continued-nil}
 
-pub read_more : (old new : Option (List ℕ)) (bs : List ℕ) (f after : List ℕ → Told) (x : Told) → Consumes old new bs
+pub read_more : (old new : Option (List ℕ)) (bs : List ℕ) (f after : List ℕ → Check) (x : Check) → Consumes old new bs
     → ((rest : List ℕ) → after rest ≡ f (bs ++ rest)) → option_map f old ≡ Some x → option_map after new ≡ Some x
 read_more None new bs f after x read same is = cc
 read_more (Some xs) None bs f after x read same is = absurd read
 read_more (Some xs) (Some ys) bs f after x read same is = ap Some (same ys ∙ ap f (sym read)) ∙ is
 
-pub read_none : (old new : Option (List ℕ)) (f : List ℕ → Told) (x : Told) → Keeps old new
+pub read_none : (old new : Option (List ℕ)) (f : List ℕ → Check) (x : Check) → Keeps old new
     → option_map f old ≡ Some x → option_map f new ≡ Some x
 read_none None new f x keeps is = cc
 read_none (Some xs) None f x keeps is = absurd keeps
 read_none (Some xs) (Some ys) f x keeps is = ap (λ bs. Some (f bs)) keeps ∙ is
 
-pub at_end : (old new : Option (List ℕ)) (f : List ℕ → Told) (x : Told) → Consumes old new [] → IsAtEnd new
+pub at_end : (old new : Option (List ℕ)) (f : List ℕ → Check) (x : Check) → Consumes old new [] → IsAtEnd new
     → option_map f old ≡ Some x → f [] ≡ x
 at_end None new f x read end is = cc
 at_end (Some xs) None f x read end is = absurd read
 at_end (Some xs) (Some ys) f x read end is = let same : Some (f [])
     ≡ Some x = ap (λ bs. Some (f bs)) (sym (read ∙ end)) ∙ is in cc
 
-pub fault_at : (old new : Option (List ℕ)) (bs : List ℕ) (f : List ℕ → Told) (x : Told) (e : PlayFault)
+pub fault_at : (old new : Option (List ℕ)) (bs : List ℕ) (f : List ℕ → Check) (x : Check) (e : PlayFault)
     → Consumes old new bs → ((rest : List ℕ) → IsFaultOf (f (bs ++ rest)) e) → option_map f old ≡ Some x
     → IsFaultOf x e
 fault_at None new bs f x e read fault is = absurd (cc)
@@ -53,8 +53,8 @@ appends_kept (Some xs) (Some ys) None bs appended kept = absurd kept
 appends_kept (Some xs) (Some ys) (Some zs) bs appended kept = kept ∙ appended
 
 -- a play begins before the first line
-pub start : (script : List ℕ) → told_ahead (Some default_limits) 0 [] script ≡ told_of script
-start script = ap (told_after (Some default_limits) 1) (continued-nil (lines_of script))
+pub start : (script : List ℕ) → check_ahead (Some default_limits) 0 [] script ≡ check_of script
+start script = ap (check_after (Some default_limits) 1) (continued-nil (lines_of script))
 
 pub if_known : (P : List ℕ → Type 0) (known : Option (List ℕ))
     → ((script : List ℕ) → known ≡ Some script → P script) → IfSome known P
@@ -64,11 +64,11 @@ if_known P (Some script) all = all script refl
 -- ---- a whole script
 
 pub told_from_start : (head : Option Limits) (ended : ℕ) (line : List ℕ) → head ≡ Some default_limits → ended ≡ 0
-    → line ≡ [] → (script : List ℕ) → told_ahead head ended line script ≡ told_of script
+    → line ≡ [] → (script : List ℕ) → check_ahead head ended line script ≡ check_of script
 told_from_start head ended line h e l script =
-    ap (λ (x : Option Limits). told_ahead x ended line script) h ∙ ap
-    (λ (n : ℕ). told_ahead (Some default_limits) n line script) e ∙ ap
-    (λ (bs : List ℕ). told_ahead (Some default_limits) 0 bs script) l ∙ start script
+    ap (λ (x : Option Limits). check_ahead x ended line script) h ∙ ap
+    (λ (n : ℕ). check_ahead (Some default_limits) n line script) e ∙ ap
+    (λ (bs : List ℕ). check_ahead (Some default_limits) 0 bs script) l ∙ start script
 
 pub printed_from_start : {L : Type 0} (stage : Stage L) (line : List ℕ) → head_of stage ≡ Some default_limits
     → line ≡ [] → (script text : List ℕ) → PrintsAhead stage line script text → IsPrinted script text

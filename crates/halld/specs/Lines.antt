@@ -52,13 +52,13 @@ limits_after l (line ∷ more) = if is_step line then l else limits_after (after
 abbrev pub limits_of : List ℕ → Limits
 limits_of script = limits_after default_limits (lines_of script)
 
--- what is told of a script: its first bad line, and whether a server can be set up with its limits
-pub record Told : Type 0 where
+-- what comes of looking at a script: its first bad line, and whether a server can be set up with its limits
+pub record Check : Type 0 where
   pub bad : Option ℕ
   pub is_set : Bool
 
-abbrev pub told_of : List ℕ → Told
-told_of script = record { bad = bad_line_of script; is_set = are_good (limits_of script) }
+abbrev pub check_of : List ℕ → Check
+check_of script = record { bad = bad_line_of script; is_set = are_good (limits_of script) }
 
 -- whether a server can be set up; it was where a step came, and there are no limits any more
 abbrev pub is_set_after : Option Limits → List (List ℕ) → Bool
@@ -66,9 +66,9 @@ is_set_after None lines = true
 is_set_after (Some l) lines = are_good (limits_after l lines)
 
 -- the same of lines, where the first one has this number
-abbrev pub told_after : Option Limits → ℕ → List (List ℕ) → Told
-told_after head n lines = record { bad = first_bad head n lines; is_set = is_set_after head lines }
+abbrev pub check_after : Option Limits → ℕ → List (List ℕ) → Check
+check_after head n lines = record { bad = first_bad head n lines; is_set = is_set_after head lines }
 
 -- the same where some lines have ended, the present line has begun, and this rest of the script comes
-abbrev pub told_ahead : Option Limits → ℕ → List ℕ → List ℕ → Told
-told_ahead head ended line rest = told_after head (ended + 1) (text_before line (lines_of rest))
+abbrev pub check_ahead : Option Limits → ℕ → List ℕ → List ℕ → Check
+check_ahead head ended line rest = check_after head (ended + 1) (text_before line (lines_of rest))

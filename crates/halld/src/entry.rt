@@ -5,7 +5,7 @@
 ghost use Rattle.std.specs.Prelude.{◌≡◌, ◌<◌, ◌≤◌, ◌^◌, [], List, ℕ, Some, true, is_ok, OnOk, IfErr, IfSome};
 ghost use Rattle.std.specs.Io.KnownBytes.{Keeps};
 ghost use Rattle.halld.specs.declared.entry.PlayFault.TheVariants.{WriteFailed};
-ghost use Rattle.halld.specs.Lines.{told_of, told_ahead};
+ghost use Rattle.halld.specs.Lines.{check_of, check_ahead};
 ghost use Rattle.halld.specs.Faults.{IsFaultOf, IsGood};
 ghost use Rattle.halld.specs.Stages.{head_of, IsReady};
 ghost use Rattle.halld.specs.Printed.{IsPrinted, PrintsAhead, Writes};
@@ -77,13 +77,13 @@ fn play_lines<L: Naming, R: Read + Drop, W: Write + Drop>(
     requires ready { IsReady L.table reader.old.stage reader.old.register }
     ensures good { OnOk result ((script : List ℕ) → R.remaining input.old.inner ≡ Some script
         → IsGood
-        (told_ahead (head_of reader.old.stage) reader.old.ended reader.old.line.items script)) }
+        (check_ahead (head_of reader.old.stage) reader.old.ended reader.old.line.items script)) }
     ensures printed { OnOk result (Writes (W.contents output.old.inner)
         (W.contents output.new.inner)
         (λ written. (script : List ℕ) → R.remaining input.old.inner ≡ Some script
         → PrintsAhead reader.old.stage reader.old.line.items script written)) }
     ensures fault { IfErr result
-        (λ e. (script : List ℕ) → R.remaining input.old.inner ≡ Some script → IsFaultOf (told_ahead
+        (λ e. (script : List ℕ) → R.remaining input.old.inner ≡ Some script → IsFaultOf (check_ahead
         (head_of reader.old.stage) reader.old.ended reader.old.line.items script) e) }
     ensures same { OnOk result (output.new.failures ≡ output.old.failures) }
     ensures cause { IfErr result (HasCause input.old input.new output.old output.new) }
@@ -131,13 +131,13 @@ fn play_named<L: Naming, R: Read + Drop, W: Write + Drop>(
     requires named { register.table ≡ L.table }
     requires empty { register.rows ≡ [] }
     ensures good { OnOk result
-        (IfSome (R.remaining input.old.inner) (λ script. IsGood (told_of script))) }
+        (IfSome (R.remaining input.old.inner) (λ script. IsGood (check_of script))) }
     ensures printed { OnOk result (Writes (W.contents output.old.inner)
         (W.contents output.new.inner)
         (λ written. IfSome (R.remaining input.old.inner) (λ script. IsPrinted script written))) }
     ensures fault { IfErr result
         (λ fault. IfSome (R.remaining input.old.inner)
-        (λ script. IsFaultOf (told_of script) fault)) }
+        (λ script. IsFaultOf (check_of script) fault)) }
     ensures cause { IfErr result (HasCause input.old input.new output.old output.new) }
 {
     let mut reader: Reader<L> = Reader::new(alloc, register);
@@ -154,13 +154,13 @@ pub fn play<R: Read + Drop, W: Write + Drop>(
     output: &mut Output<W>,
 ) -> Result<(), PlayFault>
     ensures good { OnOk result
-        (IfSome (R.remaining input.old.inner) (λ script. IsGood (told_of script))) }
+        (IfSome (R.remaining input.old.inner) (λ script. IsGood (check_of script))) }
     ensures printed { OnOk result (Writes (W.contents output.old.inner)
         (W.contents output.new.inner)
         (λ written. IfSome (R.remaining input.old.inner) (λ script. IsPrinted script written))) }
     ensures fault { IfErr result
         (λ fault. IfSome (R.remaining input.old.inner)
-        (λ script. IsFaultOf (told_of script) fault)) }
+        (λ script. IsFaultOf (check_of script) fault)) }
     ensures cause { IfErr result (HasCause input.old input.new output.old output.new) }
 {
     let register = Register::new(alloc)?;

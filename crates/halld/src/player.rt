@@ -104,11 +104,11 @@ impl<L: Naming> Player<L> {
         let Event::Connect { host, .. } = event else {
             return Ok(self.play.step(event));
         };
-        let told = host.clone()?;
+        let copy = host.clone()?;
         self.hosts.reserve(1)?;
         let answer = self.play.step(event);
         if let Ok(Note::Session(_)) = answer {
-            self.hosts.push_reserved(told);
+            self.hosts.push_reserved(copy);
         }
         Ok(answer)
     }

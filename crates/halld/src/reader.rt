@@ -4,7 +4,7 @@ ghost use Rattle.std.specs.Prelude.{Some, true, length, OnOk, IfOk, IfErr};
 ghost use Rattle.std.specs.Io.KnownBytes.{Appends};
 ghost use Rattle.halld.specs.Headers.{default_limits, settings_of, are_good};
 ghost use Rattle.halld.specs.Script.{step_of, NamesHost};
-ghost use Rattle.halld.specs.Lines.{told_after, told_ahead, is_set_after};
+ghost use Rattle.halld.specs.Lines.{check_after, check_ahead, is_set_after};
 ghost use Rattle.halld.specs.Faults.{IsFaultOf, IsGood, IsOutside};
 ghost use Rattle.halld.specs.Stages.{head_of, IsReady};
 ghost use Rattle.halld.specs.Steps.{IsPerformed};
@@ -75,7 +75,7 @@ fn new_player<L: Naming>(
     ensures ok { IfOk result (λ player. are_good limits.now ≡ true) }
     ensures play { IfOk result (λ player. player.play ≡ start_of limits.now) }
     ensures hosts { IfOk result (λ player. player.hosts.items ≡ []) }
-    ensures fault { IfErr result (IsFaultOf (told_after (Some limits.now) 1 [])) }
+    ensures fault { IfErr result (IsFaultOf (check_after (Some limits.now) 1 [])) }
     ensures unasked { IfErr result (λ e. (n m : ℕ) → IsWrites n m e) }
 {
     let settings = settings_of(alloc, limits)?;
@@ -130,7 +130,7 @@ impl<L: Naming> Reader<L> {
             × IsPerformed step (hosts_of self.old.stage) (server_of self.old.stage []) text
             (hosts_of self.new.stage) (server_of self.new.stage [])
             × Appends (W.contents output.old.inner) (W.contents output.new.inner) text) }
-        ensures fault { IfErr result (IsFaultOf (told_after (head_of self.old.stage) 1 [])) }
+        ensures fault { IfErr result (IsFaultOf (check_after (head_of self.old.stage) 1 [])) }
         ensures same { OnOk result (output.new.failures ≡ output.old.failures) }
         ensures cause { IfErr result (IsWrites output.old.failures output.new.failures) }
     {
@@ -151,12 +151,12 @@ impl<L: Naming> Reader<L> {
         ensures line { OnOk result (self.new.line.items ≡ []) }
         ensures ended { self.new.ended ≡ self.old.ended }
         ensures ahead { OnOk result ((more : List (List ℕ))
-            → told_after (head_of self.new.stage) (self.new.ended + 1) more
-            ≡ told_after (head_of self.old.stage) self.old.ended (self.old.line.items ∷ more)) }
+            → check_after (head_of self.new.stage) (self.new.ended + 1) more
+            ≡ check_after (head_of self.old.stage) self.old.ended (self.old.line.items ∷ more)) }
         ensures printed { OnOk result ((more : List (List ℕ)) (text : List ℕ) → Prints
             self.new.stage more text → Prints self.old.stage (self.old.line.items ∷ more) text) }
         ensures fault { IfErr result (λ e. (more : List (List ℕ)) → IsFaultOf
-            (told_after (head_of self.old.stage) self.old.ended (self.old.line.items ∷ more)) e) }
+            (check_after (head_of self.old.stage) self.old.ended (self.old.line.items ∷ more)) e) }
         ensures unasked { IfErr result (λ e. (n m : ℕ) → IsWrites n m e) }
     {
         let Stage::Head(limits) = &mut self.stage else {
@@ -180,13 +180,13 @@ impl<L: Naming> Reader<L> {
         ensures line { OnOk result (self.new.line.items ≡ []) }
         ensures ended { OnOk result (self.new.ended ≡ self.old.ended + 1) }
         ensures ahead { OnOk result ((more : List (List ℕ))
-            → told_after (head_of self.new.stage) (self.new.ended + 1) more ≡ told_after
+            → check_after (head_of self.new.stage) (self.new.ended + 1) more ≡ check_after
             (head_of self.old.stage) (self.old.ended + 1) (self.old.line.items ∷ more)) }
         ensures printed { OnOk result (Writes (W.contents output.old.inner)
             (W.contents output.new.inner)
             (λ written. (more : List (List ℕ)) (text : List ℕ) → Prints self.new.stage more text
             → Prints self.old.stage (self.old.line.items ∷ more) (written ++ text))) }
-        ensures fault { IfErr result (λ e. (more : List (List ℕ)) → IsFaultOf (told_after
+        ensures fault { IfErr result (λ e. (more : List (List ℕ)) → IsFaultOf (check_after
             (head_of self.old.stage) (self.old.ended + 1) (self.old.line.items ∷ more)) e) }
         ensures same { OnOk result (output.new.failures ≡ output.old.failures) }
         ensures cause { IfErr result (IsWrites output.old.failures output.new.failures) }
@@ -215,14 +215,14 @@ impl<L: Naming> Reader<L> {
         requires ready { IsReady L.table self.old.stage self.old.register }
         ensures ready { OnOk result (IsReady L.table self.new.stage self.new.register) }
         ensures ended { OnOk result (self.new.ended ≤ self.old.ended + 1) }
-        ensures ahead { OnOk result ((rest : List ℕ) → told_ahead
-            (head_of self.new.stage) self.new.ended self.new.line.items rest ≡ told_ahead
+        ensures ahead { OnOk result ((rest : List ℕ) → check_ahead
+            (head_of self.new.stage) self.new.ended self.new.line.items rest ≡ check_ahead
             (head_of self.old.stage) self.old.ended self.old.line.items (octet ∷ rest)) }
         ensures printed { OnOk result (Writes (W.contents output.old.inner)
             (W.contents output.new.inner)
             (GoesOn self.old.stage self.old.line.items self.new.stage self.new.line.items
             (octet ∷ []))) }
-        ensures fault { IfErr result (λ e. (rest : List ℕ) → IsFaultOf (told_ahead
+        ensures fault { IfErr result (λ e. (rest : List ℕ) → IsFaultOf (check_ahead
             (head_of self.old.stage) self.old.ended self.old.line.items (octet ∷ rest)) e) }
         ensures same { OnOk result (output.new.failures ≡ output.old.failures) }
         ensures cause { IfErr result (IsWrites output.old.failures output.new.failures) }
@@ -244,14 +244,14 @@ impl<L: Naming> Reader<L> {
         requires ready { IsReady L.table self.old.stage self.old.register }
         ensures ready { OnOk result (IsReady L.table self.new.stage self.new.register) }
         ensures ended { OnOk result (self.new.ended ≤ self.old.ended + length block.now) }
-        ensures ahead { OnOk result ((rest : List ℕ) → told_ahead
-            (head_of self.new.stage) self.new.ended self.new.line.items rest ≡ told_ahead
+        ensures ahead { OnOk result ((rest : List ℕ) → check_ahead
+            (head_of self.new.stage) self.new.ended self.new.line.items rest ≡ check_ahead
             (head_of self.old.stage) self.old.ended self.old.line.items (block.now ++ rest)) }
         ensures printed { OnOk result
             (Writes (W.contents output.old.inner)
             (W.contents output.new.inner) (GoesOn self.old.stage
             self.old.line.items self.new.stage self.new.line.items block.now)) }
-        ensures fault { IfErr result (λ e. (rest : List ℕ) → IsFaultOf (told_ahead
+        ensures fault { IfErr result (λ e. (rest : List ℕ) → IsFaultOf (check_ahead
             (head_of self.old.stage) self.old.ended self.old.line.items (block.now ++ rest)) e) }
         ensures same { OnOk result (output.new.failures ≡ output.old.failures) }
         ensures cause { IfErr result (IsWrites output.old.failures output.new.failures) }
@@ -273,7 +273,7 @@ impl<L: Naming> Reader<L> {
         ensures line { self.new.line ≡ self.old.line }
         ensures ended { self.new.ended ≡ self.old.ended }
         ensures good { OnOk result (is_set_after (head_of self.old.stage) [] ≡ true) }
-        ensures fault { IfErr result (IsFaultOf (told_after (head_of self.old.stage) 1 [])) }
+        ensures fault { IfErr result (IsFaultOf (check_after (head_of self.old.stage) 1 [])) }
         ensures unasked { IfErr result (λ e. (n m : ℕ) → IsWrites n m e) }
     {
         if let Stage::Head(limits) = &self.stage {
@@ -294,12 +294,12 @@ impl<L: Naming> Reader<L> {
         requires few { self.old.ended + 1 < 2 ^ 64 }
         requires ready { IsReady L.table self.old.stage self.old.register }
         ensures good { OnOk result
-            (IsGood (told_ahead (head_of self.old.stage) self.old.ended self.old.line.items [])) }
+            (IsGood (check_ahead (head_of self.old.stage) self.old.ended self.old.line.items [])) }
         ensures printed { OnOk result (Writes (W.contents output.old.inner)
             (W.contents output.new.inner)
             (PrintsAhead self.old.stage self.old.line.items [])) }
         ensures fault { IfErr result (IsFaultOf
-            (told_ahead (head_of self.old.stage) self.old.ended self.old.line.items [])) }
+            (check_ahead (head_of self.old.stage) self.old.ended self.old.line.items [])) }
         ensures same { OnOk result (output.new.failures ≡ output.old.failures) }
         ensures cause { IfErr result (IsWrites output.old.failures output.new.failures) }
     {

@@ -29,7 +29,7 @@ pub(crate) enum Act {
 
 /// What became of an event, by numbers.
 #[derive(Clone, Copy, Debug, PartialEq)]
-pub(crate) enum Told {
+pub(crate) enum Outcome {
     Session(u64),
     Read(usize),
     Picked,
@@ -144,43 +144,48 @@ fn number_of(item: &Delivery) -> u64 {
 }
 
 /// An answer by its numbers.
-pub(crate) fn brief(answer: &Result<Note, StepRefusal>) -> Told {
+pub(crate) fn brief(answer: &Result<Note, StepRefusal>) -> Outcome {
     match answer {
-        Ok(Note::Session(session)) => Told::Session(session.number()),
-        Ok(Note::Read(lines)) => Told::Read(*lines),
-        Ok(Note::Picked) => Told::Picked,
-        Ok(Note::Record(number)) => Told::Record(number.number()),
-        Ok(Note::Put(session)) => Told::Put(session.number()),
-        Ok(Note::Missed(session)) => Told::Missed(session.number()),
-        Ok(Note::Done(Done { number, .. })) => Told::Done(number.number()),
-        Ok(Note::Back) => Told::Back,
-        Ok(Note::Item(item)) => Told::Item(number_of(item)),
-        Ok(Note::Empty) => Told::Empty,
-        Ok(Note::Hung(hung)) => Told::Hung(hung.number.number()),
-        Ok(Note::Swept(None)) => Told::Swept(None),
-        Ok(Note::Swept(Some(number))) => Told::Swept(Some(number.number())),
-        Ok(Note::Ticked(None)) => Told::Ticked(None),
-        Ok(Note::Ticked(Some(number))) => Told::Ticked(Some(number.number())),
-        Ok(Note::Left(count)) => Told::Left(*count),
-        Err(refusal) => Told::Refused(*refusal),
+        Ok(Note::Session(session)) => Outcome::Session(session.number()),
+        Ok(Note::Read(lines)) => Outcome::Read(*lines),
+        Ok(Note::Picked) => Outcome::Picked,
+        Ok(Note::Record(number)) => Outcome::Record(number.number()),
+        Ok(Note::Put(session)) => Outcome::Put(session.number()),
+        Ok(Note::Missed(session)) => Outcome::Missed(session.number()),
+        Ok(Note::Done(Done { number, .. })) => Outcome::Done(number.number()),
+        Ok(Note::Back) => Outcome::Back,
+        Ok(Note::Item(item)) => Outcome::Item(number_of(item)),
+        Ok(Note::Empty) => Outcome::Empty,
+        Ok(Note::Hung(hung)) => Outcome::Hung(hung.number.number()),
+        Ok(Note::Swept(None)) => Outcome::Swept(None),
+        Ok(Note::Swept(Some(number))) => Outcome::Swept(Some(number.number())),
+        Ok(Note::Ticked(None)) => Outcome::Ticked(None),
+        Ok(Note::Ticked(Some(number))) => Outcome::Ticked(Some(number.number())),
+        Ok(Note::Left(count)) => Outcome::Left(*count),
+        Err(refusal) => Outcome::Refused(*refusal),
     }
 }
 
 /// Takes a step, once more where there was no memory: one growth is refused at most.
-fn step<L: Naming>(play: &mut Play<L>, event: &Event) -> Told
+fn step<L: Naming>(play: &mut Play<L>, event: &Event) -> Outcome
     requires { IsWellShaped event.now }
 {
     match brief(&play.step(event)) {
-        Told::Refused(StepRefusal::Memory) => brief(&play.step(event)),
-        told => told,
+        Outcome::Refused(StepRefusal::Memory) => brief(&play.step(event)),
+        outcome => outcome,
     }
 }
 
 /// Takes a step. Where there is no memory for what it brings it is refused for that.
-pub(crate) fn take_step<L: Naming>(alloc: Global, play: &mut Play<L>, act: Act, at: i64) -> Told {
+pub(crate) fn take_step<L: Naming>(
+    alloc: Global,
+    play: &mut Play<L>,
+    act: Act,
+    at: i64,
+) -> Outcome {
     match event_of(alloc, act, at) {
         Ok(event) => step(play, &event),
-        Err(_) => Told::Refused(StepRefusal::Memory),
+        Err(_) => Outcome::Refused(StepRefusal::Memory),
     }
 }
 
@@ -188,7 +193,7 @@ pub(crate) fn take_step<L: Naming>(alloc: Global, play: &mut Play<L>, act: Act, 
 pub(crate) fn compare<L: Naming>(
     alloc: Global,
     play: &mut Play<L>,
-    table: &[(Act, Told)],
+    table: &[(Act, Outcome)],
     steps: &mut Steps,
 ) {
     for (act, want) in table {

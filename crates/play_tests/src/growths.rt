@@ -2,74 +2,74 @@
 //! comes again.
 ghost use Rattle.interleave.specs.Steps.{IsWellShaped};
 
-use crate::acts::{Act, Told, brief, compare};
+use crate::acts::{Act, Outcome, brief, compare};
 use crate::again::copy_of;
 use crate::plays::{Steps, Story, tell_story};
 use interleave::{Delivery, Event, Moment, Naming, Note, Play, SessionId, StepRefusal, WorkerId};
 use std::alloc::Global;
 
 /// Al asks for labels and moments, and registers: records 1 to 5.
-const AL: [(Act, Told); 20] = [
-    (Act::Connect, Told::Session(1)),
+const AL: [(Act, Outcome); 20] = [
+    (Act::Connect, Outcome::Session(1)),
     (
         Act::Feed(
             1,
             "CAP REQ :batch labeled-response server-time\r\nNICK al\r\nUSER a 0 * :Al\r\nCAP END\r\n",
         ),
-        Told::Read(4),
+        Outcome::Read(4),
     ),
-    (Act::Pick(1, 1), Told::Picked),
-    (Act::Begin(1), Told::Record(2)),
-    (Act::Put(1), Told::Put(1)),
-    (Act::End(1), Told::Done(2)),
-    (Act::Take(1), Told::Item(2)),
-    (Act::Pick(1, 1), Told::Picked),
-    (Act::Begin(1), Told::Record(3)),
-    (Act::End(1), Told::Done(3)),
-    (Act::Pick(1, 1), Told::Picked),
-    (Act::Begin(1), Told::Record(4)),
-    (Act::End(1), Told::Done(4)),
-    (Act::Pick(1, 1), Told::Picked),
-    (Act::Begin(1), Told::Record(5)),
-    (Act::Put(1), Told::Put(1)),
-    (Act::End(1), Told::Done(5)),
-    (Act::Take(1), Told::Item(5)),
-    (Act::Take(1), Told::Empty),
-    (Act::Put(1), Told::Refused(StepRefusal::NotHolding)),
+    (Act::Pick(1, 1), Outcome::Picked),
+    (Act::Begin(1), Outcome::Record(2)),
+    (Act::Put(1), Outcome::Put(1)),
+    (Act::End(1), Outcome::Done(2)),
+    (Act::Take(1), Outcome::Item(2)),
+    (Act::Pick(1, 1), Outcome::Picked),
+    (Act::Begin(1), Outcome::Record(3)),
+    (Act::End(1), Outcome::Done(3)),
+    (Act::Pick(1, 1), Outcome::Picked),
+    (Act::Begin(1), Outcome::Record(4)),
+    (Act::End(1), Outcome::Done(4)),
+    (Act::Pick(1, 1), Outcome::Picked),
+    (Act::Begin(1), Outcome::Record(5)),
+    (Act::Put(1), Outcome::Put(1)),
+    (Act::End(1), Outcome::Done(5)),
+    (Act::Take(1), Outcome::Item(5)),
+    (Act::Take(1), Outcome::Empty),
+    (Act::Put(1), Outcome::Refused(StepRefusal::NotHolding)),
 ];
 
 /// Bo registers and makes a channel: records 6 to 9.
-const BO: [(Act, Told); 17] = [
-    (Act::Connect, Told::Session(2)),
+const BO: [(Act, Outcome); 17] = [
+    (Act::Connect, Outcome::Session(2)),
     (
         Act::Feed(2, "NICK bo\r\nUSER b 0 * :Bo\r\nJOIN #a\r\n"),
-        Told::Read(3),
+        Outcome::Read(3),
     ),
-    (Act::Pick(1, 2), Told::Picked),
-    (Act::Begin(1), Told::Record(7)),
-    (Act::End(1), Told::Done(7)),
-    (Act::Pick(1, 2), Told::Picked),
-    (Act::Begin(1), Told::Record(8)),
-    (Act::Put(1), Told::Put(2)),
-    (Act::End(1), Told::Done(8)),
-    (Act::Take(2), Told::Item(8)),
-    (Act::Pick(1, 2), Told::Picked),
-    (Act::Begin(1), Told::Record(9)),
-    (Act::Put(1), Told::Put(2)),
-    (Act::End(1), Told::Done(9)),
-    (Act::Take(2), Told::Item(9)),
-    (Act::Take(1), Told::Empty),
-    (Act::Take(2), Told::Empty),
+    (Act::Pick(1, 2), Outcome::Picked),
+    (Act::Begin(1), Outcome::Record(7)),
+    (Act::End(1), Outcome::Done(7)),
+    (Act::Pick(1, 2), Outcome::Picked),
+    (Act::Begin(1), Outcome::Record(8)),
+    (Act::Put(1), Outcome::Put(2)),
+    (Act::End(1), Outcome::Done(8)),
+    (Act::Take(2), Outcome::Item(8)),
+    (Act::Pick(1, 2), Outcome::Picked),
+    (Act::Begin(1), Outcome::Record(9)),
+    (Act::Put(1), Outcome::Put(2)),
+    (Act::End(1), Outcome::Done(9)),
+    (Act::Take(2), Outcome::Item(9)),
+    (Act::Take(1), Outcome::Empty),
+    (Act::Take(2), Outcome::Empty),
 ];
 
-const PICK: [(Act, Told); 1] = [(Act::Pick(1, 1), Told::Picked)];
+const PICK: [(Act, Outcome); 1] = [(Act::Pick(1, 1), Outcome::Picked)];
 
 /// What the record owes is put.
-const PUTS: [(Act, Told); 4] = [
-    (Act::Put(1), Told::Put(1)),
-    (Act::Put(1), Told::Put(2)),
-    (Act::Put(1), Told::Refused(StepRefusal::NothingLeft)),
-    (Act::End(1), Told::Done(10)),
+const PUTS: [(Act, Outcome); 4] = [
+    (Act::Put(1), Outcome::Put(1)),
+    (Act::Put(1), Outcome::Put(2)),
+    (Act::Put(1), Outcome::Refused(StepRefusal::NothingLeft)),
+    (Act::End(1), Outcome::Done(10)),
 ];
 
 const TO_AL: &str = "\
@@ -98,13 +98,13 @@ fn is_free<L: Naming>(play: &mut Play<L>) -> bool {
 
 /// What becomes of a step, which is taken once more where a growth was refused: then there are as many records as
 /// before, and nothing was put.
-fn step_again<L: Naming>(play: &mut Play<L>, event: &Event, steps: &mut Steps) -> Told
+fn step_again<L: Naming>(play: &mut Play<L>, event: &Event, steps: &mut Steps) -> Outcome
     requires { IsWellShaped event.now }
 {
     let records = play.ledger().len();
-    let told = brief(&play.step(event));
-    if told != Told::Refused(StepRefusal::Memory) {
-        return told;
+    let outcome = brief(&play.step(event));
+    if outcome != Outcome::Refused(StepRefusal::Memory) {
+        return outcome;
     }
     let is_same = play.ledger().len() == records;
     steps.note(is_same && is_free(play) && has_nothing(play, 1) && has_nothing(play, 2));
@@ -116,8 +116,8 @@ fn read<L: Naming>(alloc: Global, play: &mut Play<L>, steps: &mut Steps) {
     let session = SessionId::new(1);
     match copy_of(alloc, b"@label=j JOIN #a\r\n") {
         Ok(octets) => {
-            let told = step_again(play, &Event::Feed { session, octets }, steps);
-            steps.note(told == Told::Read(1));
+            let outcome = step_again(play, &Event::Feed { session, octets }, steps);
+            steps.note(outcome == Outcome::Read(1));
         }
         Err(_) => steps.note(false),
     }
@@ -127,8 +127,8 @@ fn read<L: Naming>(alloc: Global, play: &mut Play<L>, steps: &mut Steps) {
 fn begin<L: Naming>(play: &mut Play<L>, steps: &mut Steps) {
     let worker = WorkerId::new(1);
     let moment = Moment::new(2000);
-    let told = step_again(play, &Event::Begin { worker, moment }, steps);
-    steps.note(told == Told::Record(10));
+    let outcome = step_again(play, &Event::Begin { worker, moment }, steps);
+    steps.note(outcome == Outcome::Record(10));
 }
 
 /// Whether a session takes this text.

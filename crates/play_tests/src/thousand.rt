@@ -1,6 +1,6 @@
 //! A thousand steps from a fixed list of numbers. After each the book says of its sessions, of its last moment and
 //! of who is late what a walk over its records says.
-use crate::acts::{Act, Told, take_step};
+use crate::acts::{Act, Outcome, take_step};
 use crate::again::copy_of;
 use crate::plays::{SESSIONS, Steps, Story, tell_story};
 use crate::slow::{LINES, People, read_back, slow_late, slow_nick, slow_on, slow_open};
@@ -44,11 +44,11 @@ fn after(number: u64) -> u64 {
 }
 
 /// Keeps who came and who was reaped.
-fn note(here: &mut Here, act: Act, told: Told) {
+fn note(here: &mut Here, act: Act, outcome: Outcome) {
     here.moment = here.moment.saturating_add(APART);
-    let (from, to) = match (act, told) {
-        (_, Told::Session(session)) => (0, session),
-        (Act::Reap(session), Told::Left(_)) => (session, 0),
+    let (from, to) = match (act, outcome) {
+        (_, Outcome::Session(session)) => (0, session),
+        (Act::Reap(session), Outcome::Left(_)) => (session, 0),
         _ => return,
     };
     here.came = here.came.max(to);
@@ -202,8 +202,8 @@ fn take_turn<L: Naming>(
     steps: &mut Steps,
 ) {
     for act in acts {
-        let told = take_step(alloc, play, *act, here.moment);
-        note(here, *act, told);
+        let outcome = take_step(alloc, play, *act, here.moment);
+        note(here, *act, outcome);
         steps.note(compare(play, here, channels));
     }
 }

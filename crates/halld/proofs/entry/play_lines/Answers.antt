@@ -1,7 +1,7 @@
 use Rattle.std.proofs.lemmas.Grind.{common_steps}
 use Rattle.std.proofs.Common.{◌≡◌, ◌<◌, ◌∙◌, take, length, arith}
 use Rattle.std.proofs.lemmas.Result.{err_from_is_err_and}
-use Rattle.halld.specs.Lines.{told_ahead}
+use Rattle.halld.specs.Lines.{check_ahead}
 use Rattle.halld.specs.Printed.{PrintsAhead}
 use Rattle.halld.proofs.Known.{fault_at, read_more, read_none}
 use Rattle.halld.proofs.Caused.{read_once, still_low, writes_result}
@@ -15,7 +15,7 @@ returns-in_err-feed-in-Ok-clause-fault g c =
     let p = err_from_is_err_and c.from_residual.result c.from_residual.ensures.1 in
     rw (p.1, p.2) (λ script is. fault_at (g.R.Read.remaining c.loop.input.inner)
     (g.R.Read.remaining c.read.new.self.inner) (take c.in-Ok.count c.read.new.buf)
-    (told_ahead (head_of c.loop.reader.stage) c.loop.reader.ended c.loop.reader.line.items) _ _
+    (check_ahead (head_of c.loop.reader.stage) c.loop.reader.ended c.loop.reader.line.items) _ _
     c.in-Ok.ensures.bytes.0 c.in_err-feed-in-Ok.ensures.fault (c.loop.invariant.ahead script is))
 
 pub returns-in-Ok-eq0-clause-printed : goal.returns-in-Ok-eq0-clause-printed
@@ -40,8 +40,8 @@ loop-preserved g c =
             ended = grind (arith, common_steps, w.in_ok-feed-in-Ok.ensures.ended);
             ahead = λ script is. read_more (g.R.Read.remaining c.loop.input.inner)
                 (g.R.Read.remaining c.read.new.self.inner) (take w.in-Ok.count c.read.new.buf)
-                (told_ahead (head_of c.loop.reader.stage) c.loop.reader.ended c.loop.reader.line.items)
-                (told_ahead (head_of w.feed.new.self.stage) w.feed.new.self.ended w.feed.new.self.line.items) _
+                (check_ahead (head_of c.loop.reader.stage) c.loop.reader.ended c.loop.reader.line.items)
+                (check_ahead (head_of w.feed.new.self.stage) w.feed.new.self.ended w.feed.new.self.line.items) _
                 w.in-Ok.ensures.bytes.0 w.in_ok-feed-in-Ok.ensures.ahead (c.loop.invariant.ahead script is);
             printed = by_a_block (g.R.Read.remaining c.args.input.now.inner) (g.R.Read.remaining c.loop.input.inner)
                 (g.R.Read.remaining c.read.new.self.inner) (take w.in-Ok.count c.read.new.buf) _ _ _
@@ -58,7 +58,7 @@ loop-preserved g c =
             ended = omega (arith, c.loop.invariant.ended);
             ahead = λ script is. read_none (g.R.Read.remaining c.loop.input.inner)
                 (g.R.Read.remaining c.read.new.self.inner)
-                (told_ahead (head_of c.loop.reader.stage) c.loop.reader.ended c.loop.reader.line.items) _
+                (check_ahead (head_of c.loop.reader.stage) c.loop.reader.ended c.loop.reader.line.items) _
                 w.in-Err.ensures.bytes (c.loop.invariant.ahead script is);
             printed = by_nothing (g.R.Read.remaining c.args.input.now.inner)
                 (g.R.Read.remaining c.loop.input.inner) (g.R.Read.remaining c.read.new.self.inner) _ _

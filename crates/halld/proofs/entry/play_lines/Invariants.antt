@@ -1,6 +1,6 @@
 use Rattle.std.proofs.Common.{◌≡◌, ◌≤◌, ◌+◌, ◌*◌, ◌++◌, ℕ, List, Some}
 use Rattle.std.specs.Option.{option_map}
-use Rattle.halld.specs.Lines.{told_ahead}
+use Rattle.halld.specs.Lines.{check_ahead}
 use Rattle.halld.specs.Stages.{head_of, IsReady}
 use Rattle.halld.specs.Printed.{PrintsAhead, Writes}
 use Rattle.halld.proofs.entry.play_lines.Given as goal
@@ -15,8 +15,8 @@ invariant-loop g l =
       reads : l.input.reads ≡ l.fn.input.reads + l.counter;
       low : l.fn.input.failures ≤ l.input.failures;
       ahead : (script : List ℕ) → g.R.Read.remaining l.fn.input.inner ≡ Some script → option_map
-          (told_ahead (head_of l.reader.stage) l.reader.ended l.reader.line.items) (g.R.Read.remaining l.input.inner)
-          ≡ Some (told_ahead (head_of l.fn.reader.stage) l.fn.reader.ended l.fn.reader.line.items script);
+          (check_ahead (head_of l.reader.stage) l.reader.ended l.reader.line.items) (g.R.Read.remaining l.input.inner)
+          ≡ Some (check_ahead (head_of l.fn.reader.stage) l.fn.reader.ended l.fn.reader.line.items script);
       printed : Writes (g.W.Write.contents l.fn.output.inner) (g.W.Write.contents l.output.inner) (λ w. (script : List
           ℕ)
           → g.R.Read.remaining l.fn.input.inner ≡ Some script

@@ -2,7 +2,7 @@ use Rattle.std.proofs.Common.{◌≡◌, List, ℕ, Some, subst}
 use Rattle.halld.specs.declared.entry.PlayFault.{PlayFault}
 use Rattle.halld.specs.declared.entry.PlayFault.TheVariants.{WriteFailed}
 use Rattle.std.specs.Prelude.{IfSome}
-use Rattle.halld.specs.Lines.{Told, told_of, told_ahead}
+use Rattle.halld.specs.Lines.{Check, check_of, check_ahead}
 use Rattle.halld.specs.Stages.{head_of}
 use Rattle.halld.specs.Faults.{IsFaultOf, IsGood}
 use Rattle.halld.specs.Printed.{IsPrinted}
@@ -15,14 +15,14 @@ pub returns-clause-fault : goal.returns-clause-fault
 returns-clause-fault g c =
     let r = c.new-reader.ensures in let new = c.new-reader.result in
     let known = g.R.Read.remaining c.args.input.now.inner in
-    let told = λ (e : PlayFault). IfSome known (λ script. IsFaultOf (told_of script) e) in
+    let told = λ (e : PlayFault). IfSome known (λ script. IsFaultOf (check_of script) e) in
     err_too told c.flush_after.result c.play_lines-played.result
-    (if_known (λ script. IsFaultOf (told_of script) WriteFailed) known (λ script k. tt))
+    (if_known (λ script. IsFaultOf (check_of script) WriteFailed) known (λ script k. tt))
     c.flush_after.ensures.fault c.flush_after.ensures.write
     (then_err (λ e. (script : List ℕ) → known ≡ Some script
-    → IsFaultOf (told_ahead (head_of new.stage) new.ended new.line.items script) e) told c.play_lines-played.result
-    (λ e all. if_known (λ script. IsFaultOf (told_of script) e) known
-    (λ script k. subst (λ (x : Told). IsFaultOf x e)
+    → IsFaultOf (check_ahead (head_of new.stage) new.ended new.line.items script) e) told c.play_lines-played.result
+    (λ e all. if_known (λ script. IsFaultOf (check_of script) e) known
+    (λ script k. subst (λ (x : Check). IsFaultOf x e)
     (told_from_start _ new.ended new.line.items r.head r.ended r.line script) (all script k)))
     c.play_lines-played.ensures.fault)
 
@@ -32,8 +32,8 @@ returns-clause-good g c =
     let known = g.R.Read.remaining c.args.input.now.inner in
     ok_too _ c.flush_after.result c.play_lines-played.result c.flush_after.ensures.played
     (then_ok c.play_lines-played.result
-    (λ all. if_known (λ script. IsGood (told_of script)) known
-    (λ script k. subst (λ (x : Told). IsGood x)
+    (λ all. if_known (λ script. IsGood (check_of script)) known
+    (λ script k. subst (λ (x : Check). IsGood x)
     (told_from_start _ new.ended new.line.items r.head r.ended r.line script) (all script k)))
     c.play_lines-played.ensures.good)
 

@@ -1,7 +1,7 @@
 use Rattle.std.proofs.lemmas.Grind.{common_steps}
 use Rattle.std.proofs.Common.{◌<◌, ◌∙◌, length, arith}
 use Rattle.std.proofs.lemmas.Result.{err_from_is_err_and}
-use Rattle.halld.specs.Lines.{told_ahead}
+use Rattle.halld.specs.Lines.{check_ahead}
 use Rattle.halld.specs.Printed.{PrintsAhead}
 use Rattle.halld.proofs.Faults.{at_octet, octet_on}
 use Rattle.halld.proofs.Caused.{writes_from}
@@ -14,8 +14,8 @@ returns-in_err-take_octet-clause-fault g c =
     let at : c.loop-octet.octet-index < length c.args.block.now = grind (arith, common_steps) in
     let p = err_from_is_err_and c.from_residual.result c.from_residual.ensures.1 in
     rw (p.1, p.2) (at_octet c.args.block.now c.loop-octet.octet-index
-    (told_ahead (head_of c.args.self.now.stage) c.args.self.now.ended c.args.self.now.line.items)
-    (told_ahead (head_of c.loop-octet.self.stage) c.loop-octet.self.ended c.loop-octet.self.line.items) _ at
+    (check_ahead (head_of c.args.self.now.stage) c.args.self.now.ended c.args.self.now.line.items)
+    (check_ahead (head_of c.loop-octet.self.stage) c.loop-octet.self.ended c.loop-octet.self.line.items) _ at
     c.loop-octet.invariant.ahead c.in_err-take_octet.ensures.fault)
 
 pub loop-octet-preserved : goal.loop-octet-preserved
@@ -26,9 +26,9 @@ loop-octet-preserved g c =
       same = c.in_ok-take_octet.ensures.same ∙ c.loop-octet.invariant.same;
       ended = omega (arith, c.in_ok-take_octet.ensures.ended);
       ahead = octet_on c.args.block.now c.loop-octet.octet-index
-          (told_ahead (head_of c.args.self.now.stage) c.args.self.now.ended c.args.self.now.line.items)
-          (told_ahead (head_of c.loop-octet.self.stage) c.loop-octet.self.ended c.loop-octet.self.line.items)
-          (told_ahead (head_of c.take_octet.new.self.stage) c.take_octet.new.self.ended
+          (check_ahead (head_of c.args.self.now.stage) c.args.self.now.ended c.args.self.now.line.items)
+          (check_ahead (head_of c.loop-octet.self.stage) c.loop-octet.self.ended c.loop-octet.self.line.items)
+          (check_ahead (head_of c.take_octet.new.self.stage) c.take_octet.new.self.ended
           c.take_octet.new.self.line.items) at c.loop-octet.invariant.ahead c.in_ok-take_octet.ensures.ahead;
       printed = one_on c.args.block.now c.loop-octet.octet-index (PrintsAhead c.args.self.now.stage
           c.args.self.now.line.items) (PrintsAhead c.loop-octet.self.stage c.loop-octet.self.line.items)

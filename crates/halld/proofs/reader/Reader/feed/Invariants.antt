@@ -1,5 +1,5 @@
 use Rattle.std.proofs.Common.{◌≡◌, ◌≤◌, ◌+◌, ◌++◌, ℕ, List, drop}
-use Rattle.halld.specs.Lines.{told_ahead}
+use Rattle.halld.specs.Lines.{check_ahead}
 use Rattle.halld.specs.Stages.{head_of, IsReady}
 use Rattle.halld.specs.Printed.{PrintsAhead, Writes}
 use Rattle.halld.proofs.reader.Reader.feed.Given as goal
@@ -12,8 +12,8 @@ invariant-loop-octet g l =
       ended : l.self.ended ≤ l.fn.self.ended + l.octet-index;
       same : l.output.failures ≡ l.fn.output.failures;
       ahead : (rest : List ℕ)
-          → told_ahead (head_of l.self.stage) l.self.ended l.self.line.items (drop l.octet-index l.block ++ rest)
-          ≡ told_ahead (head_of l.fn.self.stage) l.fn.self.ended l.fn.self.line.items (l.block ++ rest);
+          → check_ahead (head_of l.self.stage) l.self.ended l.self.line.items (drop l.octet-index l.block ++ rest)
+          ≡ check_ahead (head_of l.fn.self.stage) l.fn.self.ended l.fn.self.line.items (l.block ++ rest);
       printed : Writes (g.W.Write.contents l.fn.output.inner) (g.W.Write.contents l.output.inner) (λ w. (rest : List ℕ)
           (text : List ℕ) → PrintsAhead l.self.stage l.self.line.items (drop l.octet-index l.block ++ rest) text
           → PrintsAhead l.fn.self.stage l.fn.self.line.items (l.block ++ rest) (w ++ text));
