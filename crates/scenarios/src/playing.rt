@@ -1,6 +1,6 @@
 //! Playing scenarios, in which one growth is refused at most.
 use crate::scenario::Scenario;
-use halld::{Input, Output, PlayFault, play};
+use scripts::{Input, Output, PlayFault, play};
 use std::alloc::{AllocError, Global};
 use std::cell::Cell;
 use std::io;

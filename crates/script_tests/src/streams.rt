@@ -1,6 +1,6 @@
 //! Readers and writers that give or take little, or fail.
 use crate::again::{room, twice};
-use halld::{Input, Output, PlayFault, play};
+use scripts::{Input, Output, PlayFault, play};
 use std::alloc::{AllocError, Global};
 use std::io;
 use std::io::{ErrorKind, Read, Write};
