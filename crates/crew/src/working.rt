@@ -5,11 +5,11 @@ ghost use Rattle.session_io.specs.Timing.{IsAt};
 
 use crate::backlog::NoBacklog;
 use crate::desk::{AtDesk, Desk};
-use chronicle::Moment;
+use chronicle::{Moment, Why};
 use line_grammar::Piece;
 use session_io::book::outbox::Sender;
 use session_io::book::{Baton, Done, FlushList, Hall, LineRefusal, Naming, ReadLine};
-use session_io::{Gate, Host, Server, Until, do_lines, line_at, lock_soon};
+use session_io::{Gate, Host, PendingLines, Server, Until, do_lines, hang, line_at, lock_soon};
 use std::cell::Cell;
 use std::sync::{Mutex, Wait};
 
@@ -57,7 +57,7 @@ pub fn work_one<L: Naming, R: Wait + Drop, G: Gate>(
 {
     let Job { mut baton, piece } = job;
     let session = baton.session();
-    let Ok(mut line) = ReadLine::read(flushes.allocator(), &piece) else {
+    let Ok(mut line) = ReadLine::of(flushes.allocator(), piece) else {
         return Back {
             baton,
             outcome: Err(LineRefusal::Memory),
@@ -102,6 +102,10 @@ pub fn work<'a, L: Naming, R: Wait + Drop, H: Host>(
         (H.shuts server.now.host.now) baton result.baton }
 {
     let mut baton = baton;
+    let Ok(mut lines) = PendingLines::copy_of(flushes.allocator(), pieces) else {
+        let _ = hang(rt, server, baton.session(), Why::Memory, flushes);
+        return Worked { baton, all: false };
+    };
     let host = AtDesk {
         rt,
         host: server.host,
@@ -113,7 +117,7 @@ pub fn work<'a, L: Naming, R: Wait + Drop, H: Host>(
         host: &host,
         burst: server.burst,
     };
-    let count = do_lines(rt, &seated, &NoBacklog, &mut baton, pieces, flushes);
+    let count = do_lines(rt, &seated, &NoBacklog, &mut baton, &mut lines, flushes);
     Worked {
         baton,
         all: count.until == Until::Done,

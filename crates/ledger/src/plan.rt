@@ -3,7 +3,8 @@
 //! The actor's own text is planned last, put first, and stands apart from the others', so no list takes memory where
 //! only the actor is told. Where one line is shown, as of most records, its hearers are planned in one pass.
 ghost use Rattle.std.specs.Prelude.{◌≡◌, ◌≢◌, ℕ, ◌≤◌, ◌<◌, ◌≤ℤ◌, ◌++◌, ◌∷◌, [], false, map, not, length, pos};
-ghost use Rattle.std.specs.Prelude.{slice_index_or};
+ghost use Rattle.std.specs.Prelude.{◌+◌, slice_index_or};
+ghost use Rattle.std.specs.VecDeque.{deque_capacity};
 ghost use Rattle.std.specs.Prelude.{None, OnOk, IfOk, option_to_list};
 ghost use Rattle.chronicle.specs.History.{is_quit};
 ghost use Rattle.roster.specs.LookBack.{after, caps, opened_in};
@@ -124,30 +125,32 @@ fn own_text(
     answer_text(by.alloc, server, label, by.number, reply, copies, &to)
 }
 
-/// Plans, after all others, the delivery of a text to a session that isn't the actor.
+/// Plans, after all others, the delivery of a text to a session that isn't the actor. There has to be room for it.
 fn plan_one(
     plan: &mut VecDeque<Placed>,
     seats: &Seats,
     actor: SessionId,
     number: RecordNumber,
     heard: Heard,
-) -> Result<(), AllocError>
-    ensures { OnOk result
-        (plan.new.items ≡ plan.old.items ++ delivery_of seats.now actor number heard) }
+)
+    requires { length plan.old.items < deque_capacity plan.old }
+    ensures planned { plan.new.items
+        ≡ plan.old.items ++ delivery_of seats.now actor number heard }
+    ensures few { length plan.new.items ≤ length plan.old.items + 1 }
+    ensures room { deque_capacity plan.old ≤ deque_capacity plan.new }
 {
     let Heard { session, text } = heard;
     if session == actor || text.is_empty() {
-        return Ok(());
+        return;
     }
     let Some(place) = seats.listening_at(session) else {
-        return Ok(());
+        return;
     };
     let delivery = Delivery::Lines { number, text };
-    plan.push_back(Placed {
+    plan.push_back_reserved(Placed {
         planned: Planned { session, delivery },
         place,
-    })?;
-    Ok(())
+    });
 }
 
 /// Where what the session at a place hears ends.
@@ -190,7 +193,8 @@ fn plan_others(
         let text = lines.text_for(&heard[from..end])?;
         let session = heard[from].session;
         let whole = Heard { session, text };
-        plan_one(&mut plan, by.seats, by.actor, by.number, whole)?;
+        plan.reserve(1)?;
+        plan_one(&mut plan, by.seats, by.actor, by.number, whole);
         from = end;
     }
     Ok(plan)
@@ -209,7 +213,7 @@ fn plan_line(
     let mut plan = VecDeque::with_capacity(by.alloc, hearers.len())?;
     for hearer in hearers {
         let heard = hear_one(by.roster, *hearer, line)?;
-        plan_one(&mut plan, by.seats, by.actor, by.number, heard)?;
+        plan_one(&mut plan, by.seats, by.actor, by.number, heard);
     }
     Ok(plan)
 }

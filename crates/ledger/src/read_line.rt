@@ -30,17 +30,23 @@ impl Model for ReadLine {
 }
 
 impl ReadLine {
-    /// Reads a piece. It needs no ledger.
-    pub fn read(alloc: Global, piece: &Piece) -> Result<ReadLine, AllocError>
-        ensures { IfOk result (λ r. r ≡ piece.now) }
+    /// Reads a piece. It needs no ledger. Where there is no memory for it the piece is gone.
+    pub fn of(alloc: Global, piece: Piece) -> Result<ReadLine, AllocError>
+        ensures { IfOk result (λ r. r ≡ piece) }
     {
-        let own = piece.copy()?;
-        let ReadPiece { asked, label } = read_piece(alloc, piece)?;
+        let ReadPiece { asked, label } = read_piece(alloc, &piece)?;
         Ok(ReadLine {
-            piece: own,
+            piece,
             asked,
             label,
         })
+    }
+
+    /// Reads a copy of a piece. It needs no ledger.
+    pub fn read(alloc: Global, piece: &Piece) -> Result<ReadLine, AllocError>
+        ensures { IfOk result (λ r. r ≡ piece.now) }
+    {
+        ReadLine::of(alloc, piece.copy()?)
     }
 
     /// Takes the piece out. What stays is what a line that is too long is read as.

@@ -161,13 +161,19 @@ impl Seats {
         Ok(())
     }
 
-    /// Notes how a session stands that has a seat and isn't opened again, and how many of its lines were accepted.
-    fn change(&mut self, session: SessionId, shut: bool, accepted: u64)
+    /// Notes how a session stands that has a seat and isn't opened again, and that so many more of its lines were
+    /// accepted.
+    fn change(&mut self, session: SessionId, shut: bool, more: u64)
         requires seated { IsSeated self.old session }
         requires stands { stands (seat_at self.old session) ≡ true }
+        requires few { (seat_at self.old session).accepted + more < 2 ^ 64 }
         requires stays { (seat_at self.old session).shut ≡ true → shut ≡ true }
-        ensures { self.new ≡ slice_set self.old (session - 1)
-            (record { shut = shut; gone = (seat_at self.old session).gone; accepted = accepted }) }
+        ensures { self.new ≡ slice_set self.old (session - 1) (record {
+          shut = shut;
+          gone =
+              (seat_at self.old session).gone;
+          accepted = (seat_at self.old session).accepted + more;
+        }) }
     {
         let number = session.number();
         let Some(place) = place_in(&self.seats, &self.places, session) else {
@@ -178,7 +184,7 @@ impl Seats {
         };
         let is_end = ends(seat, shut);
         seat.shut = shut;
-        seat.accepted = accepted;
+        seat.accepted += more;
         if !is_end {
             return;
         }
@@ -198,10 +204,7 @@ impl Seats {
           accepted = (seat_at self.old session).accepted + 1;
         }) }
     {
-        let Some(was) = self.seat(session) else {
-            unreachable!();
-        };
-        self.change(session, quits, was.accepted + 1);
+        self.change(session, quits, 1);
     }
 
     /// Notes that a session is shut. One that was reaped is so already.
@@ -215,10 +218,9 @@ impl Seats {
           accepted = (seat_at self.old session).accepted;
         }) }
     {
-        let Some(was) = self.seat(session) else {
-            return;
-        };
-        self.change(session, true, was.accepted);
+        if self.seat(session).is_some() {
+            self.change(session, true, 0);
+        }
     }
 
     /// Notes that the session that is next to be swept is gone.

@@ -1,10 +1,11 @@
 //! What is read of a session's input.
-ghost use Rattle.std.specs.Prelude.{◌≡◌, ◌≤◌, ◌↔◌, ℕ, List, [], length, drop, true};
+ghost use Rattle.std.specs.Prelude.{◌≡◌, ◌↔◌, ℕ, List, [], true};
 ghost use Rattle.std.specs.Prelude.{false, None, OnOk, OnErr, IfOk, IfErr};
 ghost use Rattle.std.specs.Io.KnownBytes.{Consumes};
 ghost use Rattle.line_grammar.specs.Lines.{left_by};
 ghost use Rattle.receive_buffer.specs.Taking.{TakesIn};
 
+use crate::pending_lines::PendingLines;
 use chronicle::Why;
 use line_grammar::{Piece, Splitter};
 use std::alloc::{AllocError, Global};
@@ -17,31 +18,23 @@ const LITTLE: usize = 512;
 /// Octets that are read at a time from a client that sends much.
 const MUCH: usize = 4096;
 
-/// Lines of one read for which room is kept.
-const LINES: usize = 16;
-
 /// What is read of a session's input and isn't done: the lines of the last read, of which some may be left, the
 /// unfinished line, and room for what is read: for much after a read that filled the room, and for little again
 /// after one that brought little.
 #[derive(Drop)]
 pub struct ReceiveBuffer {
     splitter: Splitter,
-    pieces: Vec<Piece>,
-    /// How many of the pieces are done.
-    done: usize,
+    lines: PendingLines,
     buffer: Vec<u8>,
     last: usize,
 }
 
 impl Model for ReceiveBuffer {
-    ghost use Rattle.std.specs.Prelude.{◌≤◌, drop, length};
     ghost use Rattle.receive_buffer.specs.Taking.{Taken};
 
     ghost Value = { Taken };
 
-    ghost view = { λ a. record { kept = a.splitter; pieces = drop a.done a.pieces.items } };
-
-    ghost invariant = { λ a. a.done ≤ length a.pieces.items };
+    ghost view = { λ a. record { kept = a.splitter; pieces = a.lines } };
 }
 
 /// Why nothing was read, or nothing more can be, and whether all that was read was cut.
@@ -69,8 +62,7 @@ impl ReceiveBuffer {
     {
         Ok(ReceiveBuffer {
             splitter: Splitter::new(alloc),
-            pieces: Vec::new(alloc),
-            done: 0,
+            lines: PendingLines::new(alloc),
             buffer: vec![in alloc; 0u8; LITTLE]?,
             last: 0,
         })
@@ -80,23 +72,24 @@ impl ReceiveBuffer {
     pub fn has_lines(&self) -> bool
         ensures { (result ≡ false) ↔ (self.now.pieces ≡ []) }
     {
-        !self.pieces().is_empty()
+        !self.lines.as_slice().is_empty()
     }
 
-    /// The lines that were read and aren't done.
-    pub fn pieces(&self) -> &[Piece]
-        ensures { result.now ≡ self.now.pieces }
-    {
-        &self.pieces[self.done..]
-    }
-
-    /// So many more of the lines are done.
-    pub fn advance(&mut self, count: usize)
-        requires { count ≤ length self.old.pieces }
+    /// Takes out the lines that were read and aren't done.
+    pub fn take_lines(&mut self) -> PendingLines
+        ensures lines { result ≡ self.old.pieces }
+        ensures none { self.new.pieces ≡ [] }
         ensures kept { self.new.kept ≡ self.old.kept }
-        ensures pieces { self.new.pieces ≡ drop count self.old.pieces }
     {
-        self.done += count;
+        self.lines.take_all()
+    }
+
+    /// Puts back those lines that aren't done, in place of all that it has.
+    pub fn put_back(&mut self, lines: PendingLines)
+        ensures lines { self.new.pieces ≡ lines }
+        ensures kept { self.new.kept ≡ self.old.kept }
+    {
+        self.lines = lines;
     }
 
     /// Whether the last read filled the room, so that more may be there at once.
@@ -117,21 +110,18 @@ impl ReceiveBuffer {
         }
     }
 
-    /// Reads once, and cuts what that brings into lines, which stand in place of those before.
-    pub fn take_in<I: Read>(&mut self, input: &mut I) -> Result<(), Unread>
+    /// Reads once, and adds the lines that end in what that brings.
+    fn read_lines<I: Read>(&mut self, input: &mut I, lines: &mut Vec<Piece>) -> Result<(), Unread>
+        requires none { lines.old.items ≡ [] }
         ensures ok { OnOk result (TakesIn (I.remaining input.old)
-            (I.remaining input.new) self.old.kept self.new.kept self.new.pieces) }
+            (I.remaining input.new) self.old.kept self.new.kept lines.new.items) }
         ensures all { IfErr result (λ e. e.all ≡ true → TakesIn (I.remaining input.old)
             (I.remaining input.new) self.old.kept self.new.kept []) }
         ensures nothing { IfErr result (λ e. e.why ≡ None → e.all ≡ true) }
-        ensures none { OnErr result (self.new.pieces ≡ []) }
+        ensures none { OnErr result (lines.new.items ≡ []) }
         ensures some { OnErr result ((octets : List ℕ)
             × Consumes (I.remaining input.old) (I.remaining input.new) octets) }
     {
-        self.make_room();
-        self.done = 0;
-        self.pieces.clear();
-        self.pieces.shrink_to(LINES);
         match input.read(&mut self.buffer) {
             Ok(0) => Err(Unread {
                 why: Some(Why::ReadEnded),
@@ -139,7 +129,7 @@ impl ReceiveBuffer {
             }),
             Ok(count) => {
                 self.last = count;
-                match self.splitter.feed(&self.buffer[..count], &mut self.pieces) {
+                match self.splitter.feed(&self.buffer[..count], lines) {
                     Ok(()) => Ok(()),
                     Err(AllocError) => Err(Unread {
                         why: Some(Why::Memory),
@@ -152,5 +142,23 @@ impl ReceiveBuffer {
                 all: true,
             }),
         }
+    }
+
+    /// Reads once, and cuts what that brings into lines, which stand in place of those before.
+    pub fn take_in<I: Read>(&mut self, input: &mut I) -> Result<(), Unread>
+        ensures ok { OnOk result (TakesIn (I.remaining input.old)
+            (I.remaining input.new) self.old.kept self.new.kept self.new.pieces) }
+        ensures all { IfErr result (λ e. e.all ≡ true → TakesIn (I.remaining input.old)
+            (I.remaining input.new) self.old.kept self.new.kept []) }
+        ensures nothing { IfErr result (λ e. e.why ≡ None → e.all ≡ true) }
+        ensures none { OnErr result (self.new.pieces ≡ []) }
+        ensures some { OnErr result ((octets : List ℕ)
+            × Consumes (I.remaining input.old) (I.remaining input.new) octets) }
+    {
+        self.make_room();
+        let mut lines = self.lines.take_room();
+        let outcome = self.read_lines(input, &mut lines);
+        self.lines = PendingLines::of(lines);
+        outcome
     }
 }

@@ -2,5 +2,7 @@
 #![tactic(auto)]
 
 mod buffer;
+mod pending_lines;
 
 pub use buffer::{ReceiveBuffer, Unread};
+pub use pending_lines::PendingLines;

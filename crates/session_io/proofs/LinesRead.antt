@@ -1,8 +1,9 @@
 -- Lines are done as they are read.
 use Rattle.std.proofs.Common.{◌≡◌, ℕ, Bool, true, false, cond, List, [], ◌∷◌, ◌++◌, take, drop, Option}
-use Rattle.std.proofs.Common.{refl, ap, sym, ◌∙◌, append_assoc, append-nil}
+use Rattle.std.proofs.Common.{refl, ap, sym, ◌∙◌, append_assoc, append-nil, ◌<◌, ◌+◌, length}
 use Rattle.std.proofs.KnownBytes.{Consumes-nil}
 use Rattle.std.proofs.lemmas.List.{take-append-drop}
+use Rattle.std.proofs.Math.Seq.{take-suc, drop-cons}
 use Rattle.std.specs.Prelude.{Result, Ok, Err, OnOk}
 use Rattle.std.specs.Io.KnownBytes.{Consumes}
 use Rattle.std.specs.List.{flat_map}
@@ -132,3 +133,13 @@ reads_none a b was now old false none none_now takes read = record {
 pub unless_err : {A E : Type 0} (r : Result A E) (P : Type 0) → ((e : E) → r ≡ Err e → ⊥) → OnOk r P → P
 unless_err (Ok x) P not p = p
 unless_err (Err e) P not p = absurd (not e refl)
+
+-- ---- the line that comes next
+
+-- of lines of which so many are done the first that is left comes next, and then one more is done
+next_line : (lines : List Piece) (n : ℕ) (piece : Piece) (left : List Piece) → n < length lines
+    → drop n lines ≡ piece ∷ left
+    → (take (n + 1) lines ≡ take n lines ++ piece ∷ []) × (left ≡ drop (n + 1) lines)
+next_line lines n piece left more next =
+    let parts = sym next ∙ drop-cons lines n piece more in
+    (take-suc lines n piece more ∙ ap (λ l. take n lines ++ l) (sym (ap (take 1) parts)), ap (drop 1) parts)

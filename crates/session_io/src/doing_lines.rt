@@ -7,7 +7,8 @@
 //! lock is asked for. The hall is held from one line of a read to the next, and given back when somebody is to be
 //! shut, many are to be written to, or a line was refused. Who got something is written to after so many lines
 //! (`burst`), so that the answers of one read don't fill their own session's outbox, and otherwise by the caller.
-ghost use Rattle.std.specs.Prelude.{◌≡◌, ◌≤◌, ◌++◌, ◌∷◌, [], length, take, true, false, IfOk, IfSome, OnOk, OnErr};
+ghost use Rattle.std.specs.Prelude.{◌≡◌, ◌≢◌, ◌≤◌, ◌++◌, ◌∷◌, [], length, take, drop, true, false};
+ghost use Rattle.std.specs.Prelude.{IfOk, IfSome, OnOk, OnErr};
 ghost use Rattle.session_io.specs.Doing.{TellsOfNewest, IsSeenTo, IsNewestSeenTo};
 ghost use Rattle.session_io.specs.Filling.{IsFront};
 ghost use Rattle.session_ends.specs.Timing.{IsAt};
@@ -16,6 +17,7 @@ use crate::backlog::Backlog;
 use crate::read_ahead::{ReadAhead, line_of};
 use chronicle::{Moment, SessionId};
 use line_grammar::Piece;
+use receive_buffer::PendingLines;
 use session_ends::book::outbox::Sender;
 use session_ends::book::{
     Baton, Done, FlushList, Hall, LineRefusal, Naming, ReadLine, RollRefusal,
@@ -226,19 +228,19 @@ impl<'a, L: Naming, R: Wait + Drop> HallGuard<'a, L, R> {
         }
     }
 
-    /// Does one piece, as it was read before, where it was, and answers whether it was done.
+    /// Does one piece, as it was read before, where it was, and answers whether it was done. One that wasn't is gone.
     fn do_piece<H: Host>(
         &mut self,
         rt: &R,
         server: &Server<'a, L, R, H>,
         baton: &mut Baton<L, Sender<R>>,
-        piece: &Piece,
+        piece: Piece,
         line: Option<ReadLine>,
         flushes: &mut FlushList,
     ) -> bool
         requires shown { H.shows server.now.host.now self.old.moment }
-        requires read { IfSome line (λ r. r ≡ piece.now) }
-        ensures done { result ≡ true → baton.new.pieces ≡ baton.old.pieces ++ piece.now ∷ [] }
+        requires read { IfSome line (λ r. r ≡ piece) }
+        ensures done { result ≡ true → baton.new.pieces ≡ baton.old.pieces ++ piece ∷ [] }
         ensures not_done { result ≡ false → baton.new ≡ baton.old }
         ensures session { baton.new.session ≡ baton.old.session }
         ensures seen_to { result ≡ true
@@ -275,27 +277,29 @@ impl<'a, L: Naming, R: Wait + Drop> HallGuard<'a, L, R> {
     }
 }
 
-/// Does pieces of a session in turn, until one is refused or much waits for the session, under one hold of the lock
+/// Does lines of a session in turn, until one is refused or much waits for the session, under one hold of the lock
 /// but where somebody is to be shut or many are to be told, which is done with the hall given back. Those of one hold
-/// are read before it. Who got something and wasn't told stands in `flushes` at the end, with those who stood there
-/// before, for the caller to tell them (`flush`) when it has no more lines to do. Where there is no room for a record
-/// the journal is rolled; where there is none after that, the session is ended with Shutdown, and the server is asked
-/// to stop. Where memory is wanting it is ended with that reason.
+/// are read before it. A line is taken out when it is its turn, also one that is refused. Who got something and
+/// wasn't told stands in `flushes` at the end, with those who stood there before, for the caller to tell them
+/// (`flush`) when it has no more lines to do. Where there is no room for a record the journal is rolled; where there
+/// is none after that, the session is ended with Shutdown, and the server is asked to stop. Where memory is wanting it
+/// is ended with that reason.
 ///
-/// The pieces done with the baton are those done before, then the first of these pieces, in order. The newest line
-/// that was done was done at a moment that the clock showed, or at that of the newest record where that is later, and
-/// whom it shut was shut.
+/// The pieces done with the baton are those done before, then the first of these lines, in order; where none was
+/// refused the others are left. The newest line that was done was done at a moment that the clock showed, or at that
+/// of the newest record where that is later, and whom it shut was shut.
 pub fn do_lines<'a, L: Naming, R: Wait + Drop, H: Host, B: Backlog>(
     rt: &R,
     server: &Server<'a, L, R, H>,
     backlog: &B,
     baton: &mut Baton<L, Sender<R>>,
-    pieces: &[Piece],
+    lines: &mut PendingLines,
     flushes: &mut FlushList,
 ) -> Count
-    ensures count { result.done ≤ length pieces.now }
-    ensures front { baton.new.pieces ≡ baton.old.pieces ++ take result.done pieces.now }
-    ensures whole { result.until ≡ Until.Done → result.done ≡ length pieces.now }
+    ensures count { result.done ≤ length lines.old }
+    ensures front { baton.new.pieces ≡ baton.old.pieces ++ take result.done lines.old }
+    ensures left { result.until ≢ Until.Refused → lines.new ≡ drop result.done lines.old }
+    ensures whole { result.until ≡ Until.Done → result.done ≡ length lines.old }
     ensures much { result.until ≡ Until.Much → B.finds_much backlog.now }
     ensures session { baton.new.session ≡ baton.old.session }
     ensures newest { IsNewestSeenTo (H.shows server.now.host.now)
@@ -308,26 +312,28 @@ pub fn do_lines<'a, L: Naming, R: Wait + Drop, H: Host, B: Backlog>(
         is_new: true,
     };
     let mut ahead = ReadAhead::new(flushes.allocator());
-    let mut done = 0;
-    for piece in pieces {
-        held.read_ahead(&mut ahead, &pieces[done..], server.burst);
+    let count = lines.as_slice().len();
+    for done in 0..count {
+        held.read_ahead(&mut ahead, lines.as_slice(), server.burst);
+        let Some(piece) = lines.take_first() else {
+            unreachable!();
+        };
         if !held.do_piece(rt, server, baton, piece, ahead.next(), flushes) {
             return Count {
                 done,
                 until: Until::Refused,
             };
         }
-        done += 1;
         if held.finds_much(server, session, backlog, flushes) {
             return Count {
-                done,
+                done: done + 1,
                 until: Until::Much,
             };
         }
     }
     held.give_back(server, session);
     Count {
-        done,
+        done: count,
         until: Until::Done,
     }
 }

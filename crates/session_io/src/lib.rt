@@ -17,7 +17,7 @@ pub use doing_lines::{Count, Until, do_lines, line_at, lock_soon};
 pub use keepalive::{BeatOutcome, LateOutcome, TickOutcome, beat, hang_late, tick};
 pub use outlet::{Outlet, Pumped};
 pub use reading::{Next, Took, read_some};
-pub use receive_buffer::ReceiveBuffer;
+pub use receive_buffer::{PendingLines, ReceiveBuffer};
 pub use session_ends::{
     Clock, Gate, HangOutcome, Host, ReapOutcome, Server, Sockets, SweepOutcome, book, close_now,
     close_up, flush, give_up, hang, moment_in, sweep,

@@ -69,14 +69,14 @@ impl ReadAhead {
 /// A line as it was read ahead, or as it is read now where it wasn't.
 pub(crate) fn line_of(
     alloc: Global,
-    piece: &Piece,
+    piece: Piece,
     line: Option<ReadLine>,
 ) -> Result<ReadLine, AllocError>
-    requires read { IfSome line (λ r. r ≡ piece.now) }
-    ensures { IfOk result (λ r. r ≡ piece.now) }
+    requires read { IfSome line (λ r. r ≡ piece) }
+    ensures { IfOk result (λ r. r ≡ piece) }
 {
     match line {
         Some(line) => Ok(line),
-        None => ReadLine::read(alloc, piece),
+        None => ReadLine::of(alloc, piece),
     }
 }

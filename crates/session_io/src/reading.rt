@@ -122,7 +122,8 @@ pub fn read_some<L: Naming, I: Read, B: Backlog, R: Wait + Drop, H: Host>(
         Err(unread) => return took_of(unread),
     };
     let then = if is_full { Next::More } else { Next::Short };
-    let count = do_lines(rt, server, backlog, baton, intake.pieces(), flushes);
-    intake.advance(count.done);
+    let mut lines = intake.take_lines();
+    let count = do_lines(rt, server, backlog, baton, &mut lines, flushes);
+    intake.put_back(lines);
     took_after(count.until, then)
 }

@@ -1,4 +1,5 @@
-use Rattle.std.proofs.Common.{◌≡◌, ◌++◌, map, take, sym, ap, ◌∙◌}
+use Rattle.std.proofs.lemmas.Grind.{common_steps}
+use Rattle.std.proofs.Common.{arith, ◌≡◌, ◌++◌, map, take, sym, ap, ◌∙◌}
 use Rattle.labels_batches.specs.Spellings.{Spelled}
 use Rattle.ledger.specs.FanOut.{heard_by, delivery_of, deliveries_of}
 use Rattle.ledger.proofs.FanOut.{heard_more}
@@ -15,8 +16,10 @@ loop-hearer-preserved c =
     (λ (x : Spelled). heard_by fs x.moment x.line h) c.loop-hearer.invariant.same in
     record {
       same = c.in_ok-heard.ensures.same ∙ c.loop-hearer.invariant.same;
+      room = let i = c.loop-hearer.invariant in grind (arith, common_steps, c.plan_one.ensures.room, i.room);
+      few = let i = c.loop-hearer.invariant in grind (arith, common_steps, c.plan_one.ensures.few, i.few);
       plan =
-          c.in_ok-plan_one.ensures
+          c.plan_one.ensures.planned
           ∙ ap (λ ps. ps ++ delivery_of seats s n c.in_ok-heard.heard) c.loop-hearer.invariant.plan
           ∙ ap (λ x. deliveries_of seats s n (map f (take k hs)) ++ delivery_of seats s n x) one
           ∙ sym (deliveries_more seats s n (map f (take k hs)) (f h))

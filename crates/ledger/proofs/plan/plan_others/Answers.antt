@@ -27,11 +27,13 @@ loop-from-preserved c =
       same = c.in_ok-text.ensures.same ∙ c.loop-from.invariant.same;
       within = c.run_end-end.ensures.within;
       plan =
-          ap (λ (ps : List Planned). ps ++ deliveries_of seats s n rest) (c.in_ok-plan_one.ensures
-          ∙ ap (λ (x : Hearing). had
+          ap (λ (ps : List Planned). ps ++ deliveries_of seats s n rest) (c.plan_one.ensures.planned
+          ∙ ap (λ (x : Hearing). c.reserve.new.self.items
           ++ delivery_of seats s n (record { session = x.session; text = c.in_ok-text.text }))
           (sym c.index-heard-from.is)
-          ∙ ap (λ (bs : List ℕ). had ++ delivery_of seats s n (record { session = h.session; text = bs })) text)
+          ∙ ap (λ (bs : List ℕ). c.reserve.new.self.items
+          ++ delivery_of seats s n (record { session = h.session; text = bs })) text
+          ∙ ap (λ (ps : List Planned). ps ++ delivery_of seats s n one) c.in_ok-reserve.ensures.items)
           ∙ append_assoc had (delivery_of seats s n one) (deliveries_of seats s n rest)
           ∙ ap (λ (ys : List Heard). had ++ deliveries_of seats s n ys) (sym run)
           ∙ c.loop-from.invariant.plan;

@@ -1,4 +1,4 @@
-use Rattle.std.proofs.Common.{ℕ, ◌-◌, Some, length, slice_set, refl, ap, sym, ◌∙◌}
+use Rattle.std.proofs.Common.{arith, ℕ, ◌-◌, ◌+◌, ◌<◌, ◌^◌, subst, Some, length, slice_set, refl, ap, sym, ◌∙◌}
 use Rattle.std.specs.VecDeque.{deque_capacity}
 use Rattle.indexmap.specs.IndexMap.{with_value_at}
 use Rattle.ledger.specs.declared.seat.Seat.{Seat}
@@ -19,6 +19,14 @@ unreachable-requires c =
     let a = c.self.inside in
     seat_stands a.seats.entries a.opened c.args.self.now c.self.view_is c.args.session c.requires.seated
     c.requires.stands (sym (c.in_default.ensures.absent refl))
+
+pub overflow_add-seat : goal.overflow_add-seat
+overflow_add-seat c =
+    let a = c.self.inside in
+    let s = c.args.session in let x = c.in-Some-get_index_mut.seat.now in
+    let is = seat_found a.seats.entries a.opened c.args.self.now c.self.view_is s x c.self.invariant.opened
+    (place_found a.seats s c.in-Some.place c.in-Some.ensures.there x c.in-Some-get_index_mut.ensures.value) in
+    let few = subst (λ (y : Seat). y.accepted + c.args.more < 2 ^ 64) (sym is.1) c.requires.few in omega (arith, few)
 
 pub overflow_sub-self : goal.overflow_sub-self
 overflow_sub-self c =
@@ -65,7 +73,7 @@ invariant_of-self c =
     let a = c.self.inside in
     let s = c.args.session in
     let x = c.in-Some-get_index_mut.seat.now in let rows = c.args.self.now in let most = deque_capacity a.to_sweep in
-    let w : Seat = record { shut = c.args.shut; gone = x.gone; accepted = c.args.accepted } in
+    let w : Seat = record { shut = c.args.shut; gone = x.gone; accepted = x.accepted + c.args.more } in
     let now = (with_value_at a.seats c.in-Some.place w).entries in
     let is = seat_found a.seats.entries a.opened rows c.self.view_is s x c.self.invariant.opened
     (place_found a.seats s c.in-Some.place c.in-Some.ensures.there x c.in-Some-get_index_mut.ensures.value) in
@@ -83,7 +91,7 @@ pub returns-then-not-is_end : goal.returns-then-not-is_end
 returns-then-not-is_end c =
     let a = c.self.inside in
     let s = c.args.session in let x = c.in-Some-get_index_mut.seat.now in let rows = c.args.self.now in
-    let w : Seat = record { shut = c.args.shut; gone = x.gone; accepted = c.args.accepted } in
+    let w : Seat = record { shut = c.args.shut; gone = x.gone; accepted = x.accepted + c.args.more } in
     let now = (with_value_at a.seats c.in-Some.place w).entries in
     let is = seat_found a.seats.entries a.opened rows c.self.view_is s x c.self.invariant.opened
     (place_found a.seats s c.in-Some.place c.in-Some.ensures.there x c.in-Some-get_index_mut.ensures.value) in
@@ -92,14 +100,14 @@ returns-then-not-is_end c =
     c.in-Some-get_index_mut.ensures.unique in
     seats_set a.seats.entries a.opened rows c.self.view_is now s (Some w) written is.0
     ∙ ap (λ (y : Seat). slice_set rows (s - 1)
-    (record { shut = c.args.shut; gone = y.gone; accepted = c.args.accepted })) is.1
+    (record { shut = c.args.shut; gone = y.gone; accepted = y.accepted + c.args.more })) is.1
 
 pub invariant_of-self-2 : goal.invariant_of-self-2
 invariant_of-self-2 c =
     let a = c.self.inside in
     let s = c.args.session in
     let x = c.in-Some-get_index_mut.seat.now in let rows = c.args.self.now in let most = deque_capacity a.to_sweep in
-    let w : Seat = record { shut = c.args.shut; gone = x.gone; accepted = c.args.accepted } in
+    let w : Seat = record { shut = c.args.shut; gone = x.gone; accepted = x.accepted + c.args.more } in
     let now = (with_value_at a.seats c.in-Some.place w).entries in
     let is = seat_found a.seats.entries a.opened rows c.self.view_is s x c.self.invariant.opened
     (place_found a.seats s c.in-Some.place c.in-Some.ensures.there x c.in-Some-get_index_mut.ensures.value) in
@@ -121,7 +129,7 @@ pub returns : goal.returns
 returns c =
     let a = c.self.inside in
     let s = c.args.session in let x = c.in-Some-get_index_mut.seat.now in let rows = c.args.self.now in
-    let w : Seat = record { shut = c.args.shut; gone = x.gone; accepted = c.args.accepted } in
+    let w : Seat = record { shut = c.args.shut; gone = x.gone; accepted = x.accepted + c.args.more } in
     let now = (with_value_at a.seats c.in-Some.place w).entries in
     let is = seat_found a.seats.entries a.opened rows c.self.view_is s x c.self.invariant.opened
     (place_found a.seats s c.in-Some.place c.in-Some.ensures.there x c.in-Some-get_index_mut.ensures.value) in
@@ -130,4 +138,4 @@ returns c =
     c.in-Some-get_index_mut.ensures.unique in
     seats_set a.seats.entries a.opened rows c.self.view_is now s (Some w) written is.0
     ∙ ap (λ (y : Seat). slice_set rows (s - 1)
-    (record { shut = c.args.shut; gone = y.gone; accepted = c.args.accepted })) is.1
+    (record { shut = c.args.shut; gone = y.gone; accepted = y.accepted + c.args.more })) is.1
