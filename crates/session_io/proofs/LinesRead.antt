@@ -1,21 +1,20 @@
 -- Lines are done as they are read.
 use Rattle.std.proofs.Common.{◌≡◌, ℕ, Bool, true, false, cond, List, [], ◌∷◌, ◌++◌, take, drop, Option}
-use Rattle.std.proofs.Common.{refl, ap, sym, ◌∙◌, append_assoc, append-nil, ◌<◌, ◌+◌, length}
+use Rattle.std.proofs.Common.{refl, ap, sym, ◌∙◌, append_assoc, append-nil, ◌<◌, ◌+◌, length, subst, Some, None}
 use Rattle.std.proofs.KnownBytes.{Consumes-nil}
-use Rattle.std.proofs.lemmas.List.{take-append-drop}
-use Rattle.std.proofs.Math.Seq.{take-suc, drop-cons}
-use Rattle.std.specs.Prelude.{Result, Ok, Err, OnOk}
+use Rattle.std.proofs.lemmas.List.{take-append-drop, take_more, drop_more}
+use Rattle.std.specs.Prelude.{Result, Ok, Err, OnOk, IfSome}
 use Rattle.std.specs.Io.KnownBytes.{Consumes}
 use Rattle.std.specs.List.{flat_map}
 use Rattle.line_grammar.specs.declared.splitter.Piece.{Piece}
 use Rattle.line_grammar.specs.Lines.{is_line_end, longer, ended_lines, piece_of, lines, left_by}
 use Rattle.receive_buffer.specs.Taking.{TakesIn, Taken}
 use Rattle.session_io.specs.Doing.{DoesRead}
-use Rattle.session_io.specs.Filling.{DoesPieces, Fills}
+use Rattle.session_io.specs.Filling.{DoesPieces, Fills, IsFront}
 
 -- of the lines that an intake has, so many are done
 pub does_pieces : (was now : Taken) (old new : List Piece) (all : Bool) (n : ℕ) → new ≡ old ++ take n was.pieces
-    → now.pieces ≡ drop n was.pieces → now.kept ≡ was.kept → DoesPieces was now old new all
+    → (all ≡ true → now.pieces ≡ drop n was.pieces) → now.kept ≡ was.kept → DoesPieces was now old new all
 does_pieces was now old new all n grown leaves keeps = record {
   front = record {
     done = take n was.pieces;
@@ -23,13 +22,13 @@ does_pieces was now old new all n grown leaves keeps = record {
     parts = sym (take-append-drop n was.pieces);
     grown = grown;
   };
-  leaves = λ e. leaves;
+  leaves = leaves;
   keeps = keeps;
 }
 
 -- nothing is read, and none is done
 pub does_none : (was : Taken) (old : List Piece) → DoesPieces was was old old true
-does_none was old = does_pieces was was old old true 0 (sym (append-nil old)) refl refl
+does_none was old = does_pieces was was old old true 0 (sym (append-nil old)) (λ e. refl) refl
 
 -- nothing is read
 pub fills_nothing : (a : Option (List ℕ)) (was : Taken) → Fills a a was was
@@ -137,9 +136,16 @@ unless_err (Err e) P not p = absurd (not e refl)
 -- ---- the line that comes next
 
 -- of lines of which so many are done the first that is left comes next, and then one more is done
-next_line : (lines : List Piece) (n : ℕ) (piece : Piece) (left : List Piece) → n < length lines
-    → drop n lines ≡ piece ∷ left
-    → (take (n + 1) lines ≡ take n lines ++ piece ∷ []) × (left ≡ drop (n + 1) lines)
-next_line lines n piece left more next =
-    let parts = sym next ∙ drop-cons lines n piece more in
-    (take-suc lines n piece more ∙ ap (λ l. take n lines ++ l) (sym (ap (take 1) parts)), ap (drop 1) parts)
+pub next_line : (all : List Piece) (n : ℕ) (piece : Piece) (left : List Piece) → n < length all
+    → drop n all ≡ piece ∷ left → (take (n + 1) all ≡ take n all ++ piece ∷ []) × (left ≡ drop (n + 1) all)
+next_line all n piece left more next =
+    let parts = sym next ∙ drop_more all n piece more in
+    (take_more all n piece more ∙ ap (λ l. take n all ++ l) (sym (ap (take 1) parts)), ap (drop 1) parts)
+
+-- what was read of lines goes on to be the first of them as one is taken
+pub next_ahead : (old new : List Piece) (line : Option Piece) (all left : List Piece) (piece : Piece) → IsFront old all
+    → all ≡ piece ∷ left → IfSome line (λ l. old ≡ l ∷ new) → (line ≡ None → new ≡ []) → IsFront new left
+next_ahead old new (Some l) all left piece front parts some none =
+    let read = subst (λ o. IsFront o (piece ∷ left)) some (subst (λ a. IsFront old a) parts front) in ap (drop 1) read
+next_ahead old new None all left piece front parts some none =
+    subst (λ n. IsFront n left) (sym (none refl)) refl

@@ -1,5 +1,5 @@
 -- What is read of a stream: words of private contracts.
-use Rattle.std.specs.Prelude.{◌≡◌, ℕ, Bool, true, List, [], ◌++◌, length, take, Option}
+use Rattle.std.specs.Prelude.{◌≡◌, ℕ, Bool, true, List, length, take, Option}
 use Rattle.std.specs.Io.KnownBytes.{Consumes}
 use Rattle.line_grammar.specs.declared.splitter.Piece.{Piece}
 use Rattle.line_grammar.specs.Lines.{left_by, Feeds}

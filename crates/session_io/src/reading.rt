@@ -1,5 +1,5 @@
 //! Reading a session's lines.
-ghost use Rattle.std.specs.Prelude.{◌≡◌, List, [], true, false, IfErr, OnOk, OnErr};
+ghost use Rattle.std.specs.Prelude.{◌≡◌, ◌≢◌, List, [], true, false, IfErr, OnOk, OnErr};
 ghost use Rattle.line_grammar.specs.declared.splitter.Piece.{Piece};
 ghost use Rattle.session_io.specs.Doing.{DoesRead, is_left, is_over};
 ghost use Rattle.session_io.specs.Filling.{Fills};
@@ -59,6 +59,7 @@ fn took_after(until: Until, then: Next) -> Took
     ensures goes_on { is_over result.next ≡ false → result.all ≡ true }
     ensures whole { result.all ≡ true → is_left result.next ≡ false → until ≡ Until.Done }
     ensures much { is_left result.next ≡ true → until ≡ Until.Much }
+    ensures refused { result.all ≡ true → until ≢ Until.Refused }
 {
     let (all, next) = match until {
         Until::Done => (true, then),
