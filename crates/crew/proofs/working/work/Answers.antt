@@ -1,4 +1,4 @@
-use Rattle.std.proofs.Common.{◌++◌, [], take, ap, sym, ◌∙◌, append-nil}
+use Rattle.std.proofs.Common.{◌++◌, take, ap, sym, ◌∙◌, append-nil}
 use Rattle.crew.proofs.LinesRead.{front_of}
 use Rattle.crew.proofs.working.work.Goals as goal
 
