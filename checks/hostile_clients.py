@@ -294,7 +294,7 @@ def client_that_reads_no_more(server):
     half.close()
 
 
-@test(growth=300_000, says="halld: connections refused: 1\n")
+@test(growth=300_000)
 def as_many_as_may_be_and_one_more(server):
     """With as many clients as a server takes, one more is closed without a line, and nobody else notices."""
     clients = []
@@ -307,6 +307,7 @@ def as_many_as_may_be_and_one_more(server):
     more = Client(server)
     assert more.rest() == [], "one more got a line"
     more.close()
+    server.turned_away += 1
     for client in clients:
         client.send("PING all")
     for client in clients:

@@ -20,6 +20,9 @@ BESIDE_WORKERS = 3
 # What a server says where its journal was rolled: how often, and how many records were dropped.
 ROLLED = re.compile(r"halld: journal rolled: (\d+), records dropped: (\d+)\n")
 
+# What a server says where it turned connections away: how many.
+REFUSED = re.compile(r"halld: connections refused: (\d+)\n")
+
 # What a server says that ends with its standard input, unless it is to be quiet.
 INPUT_ENDED = "halld: standard input ended\n"
 
@@ -42,6 +45,8 @@ class Server:
         self.process = subprocess.Popen(words, **how, preexec_fn=set_limits, env=env)
         self.errors = os.fdopen(errors[0], "rb") if errors else self.process.stderr
         self.is_refused = False
+        # How many connections it turned away, as those saw that made them.
+        self.turned_away = 0
         self.port, self.ws = self.port_said(), self.port_said() if has_web else None
         workers = int(words[words.index("--workers") + 1]) if "--workers" in words else 2
         self.threads_at_rest = workers + BESIDE_WORKERS - ("--quiet" in words)
@@ -208,6 +213,7 @@ def is_taken(server):
         client.send("PING x")
         is_answered = client.line() != ""
     client.close()
+    server.turned_away += not is_answered
     return is_answered
 
 
