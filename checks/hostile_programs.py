@@ -10,7 +10,8 @@ import time
 
 from hostile_marks import alone
 from refusing import Clocks, Orders, refuser
-from served import ANY_PORT, CLIENT_QUIT, INPUT_ENDED, ROLLED, Client, Server, is_taken, pings, rolls_in, wait_until
+from served import ANY_PORT, CLIENT_QUIT, INPUT_ENDED, REFUSED, ROLLED
+from served import Client, Server, is_taken, pings, rolls_in, wait_until
 from web_client import WebClient
 
 
@@ -59,9 +60,9 @@ def journal_that_is_full(program):
     for client in clients:
         client.close()
     status, said = server.stop()
-    refused = re.findall(r"halld: connections refused: (\d+)\n", said)
-    rest = re.sub(r"halld: connections refused: \d+\n", "", ROLLED.sub("", said))
-    assert (status, rest) == (0, "") and sum(map(int, refused)) > 0, f"it ended with {status} and said {said!r}"
+    refused = sum(map(int, REFUSED.findall(said)))
+    rest = REFUSED.sub("", ROLLED.sub("", said))
+    assert (status, rest) == (0, "") and refused > 0, f"it ended with {status} and said {said!r}"
     # 9 clients, 1,000 lines and more, in room for 20 records
     assert rolls_in(said) > 60, said
     assert all(int(dropped) <= 20 * int(count) for count, dropped in ROLLED.findall(said)), said
@@ -241,7 +242,7 @@ def one_allocation_in_so_many_is_refused(program):
                 for client in filter(None, talk.clients):
                     client.close()
                 status, said = server.stop()
-                rest = re.sub(r"halld: connections refused: \d+\n", "", ROLLED.sub("", said))
+                rest = REFUSED.sub("", ROLLED.sub("", said))
                 assert (status, rest) == (0, "") and rolls_in(said) > 0, f"it ended with {status} and said {said!r}"
                 told.append(f"one in {step}: {talk.ended} were ended, {talk.refused} turned away")
     return f"passed; {'; '.join(told)}"
